@@ -1,0 +1,23 @@
+-- Laws of folding, then of reading what was written, then of the service; in reading order.
+pub mod Expand
+pub mod Images
+pub mod Lost
+pub mod Ids
+pub mod Segments
+pub mod Lookup
+pub mod Fall
+pub mod Spelled
+pub mod Monotone
+pub mod Whole
+pub mod StepFields
+pub mod WrittenLines
+pub mod NewSteps
+pub mod Output
+pub mod OutputLines
+pub mod Reread
+pub mod Counters
+pub mod Demand
+pub mod Service
+pub mod ServiceRefusals
+pub mod Computing
+pub mod Examples

@@ -1,0 +1,100 @@
+#!/usr/bin/env python3
+"""Holds our definitions to the recorded answers of the original Rust: the prover computes each case and compares.
+
+usage:  python3 tools/definitions_check.py [FILE]
+
+FILE is data/rust-answers.txt unless another is named. Every case is computed: every byte of an answer, every counter,
+every field of a refusal. Status 1, with the label of each case that differs, unless all agree.
+"""
+import sys
+
+sys.dont_write_bytecode = True
+import prover
+
+# Where the definitions of the services stand: (crate, module of its specs) and the names taken from it.
+USES = {
+    ("gfa", "Bytes"): "same, all",
+    ("gfa", "Calls"): "Refusal, Outcome, answer",
+    ("gfa", "Services"): "spellPath",
+    ("normalize", "Counting"): "Stats",
+    ("normalize", "Services"): "Normal, normal, normalize",
+    ("report", "Services"): "reportText",
+}
+SERVICES = {"report": "reportText", "normalize": "normalize", "spell": "spellPath"}
+CHUNK = 20
+
+COUNTERS = """
+    input-direct-self-loop-edges output-direct-self-loop-edges
+    input-adjacent-same-node-path-steps output-adjacent-same-node-path-steps
+    input-adjacent-same-step-path-steps output-adjacent-same-step-path-steps
+    normalized-nodes collapsed-runs created-segments added-links removed-self-loop-links
+    paths-changed path-steps-before path-steps-after
+""".split()
+
+HEAD = """
+use Prim.Native.Nat.{ℕ}
+use mathlib.Core.Bool.{Bool, true, false, _&&_}
+use mathlib.Core.List.{List, [], _∷_}
+use lib.Dec.{T, eqb}
+USES
+
+counters : Stats → List ℕ
+counters s = COUNTERS
+
+refuses : ℕ → ℕ → ℕ → ℕ → Refusal → Bool
+refuses n l f k r = eqb n (r .number) && eqb l (r .line) && eqb f (r .from) && eqb k (r .length)
+
+normal-is : List ℕ → List ℕ → Normal → Bool
+normal-is out st (Normal.refusal r) = false
+normal-is out st (normal text s) = same out text && same st (counters s)
+
+normal-refuses : ℕ → ℕ → ℕ → ℕ → Normal → Bool
+normal-refuses n l f k (Normal.refusal r) = refuses n l f k r
+normal-refuses n l f k (normal text s) = false
+
+answer-is : List ℕ → Outcome → Bool
+answer-is out (Outcome.refusal r) = false
+answer-is out (answer bs) = same out bs
+
+answer-refuses : ℕ → ℕ → ℕ → ℕ → Outcome → Bool
+answer-refuses n l f k (Outcome.refusal r) = refuses n l f k r
+answer-refuses n l f k (answer bs) = false
+
+"""
+OWN = ["counters", "refuses", "normal-is", "normal-refuses", "answer-is", "answer-refuses"]
+
+
+def head():
+    uses = "\n".join(f"use Rattle.{crate}.specs.{module}.{{{names}}}" for (crate, module), names in USES.items())
+    return HEAD.replace("USES", uses).replace("COUNTERS", numbers("s ." + name for name in COUNTERS))
+
+
+def numbers(values):
+    return "(" + " ∷ ".join([*map(str, values), "[]"]) + ")"
+
+
+def claim(case):
+    """what is to be found true of a case"""
+    call = f"({SERVICES[case.service]} {numbers(case.text)} {case.arg} {case.room} {case.work})"
+    kind = "normal" if case.service == "normalize" else "answer"
+    if case.number != 0:
+        return f"{kind}-refuses {case.number} {case.line} {case.start} {case.length} {call}"
+    counters = numbers(case.stats) if kind == "normal" else ""
+    return f"{kind}-is {numbers(case.output)} {counters} {call}"
+
+
+def main():
+    if sys.argv[1:2] in (["-h"], ["--help"]) or len(sys.argv) > 2:
+        sys.exit(__doc__)
+    cases = prover.recorded(*sys.argv[1:])
+    if not cases:
+        sys.exit("definitions_check: no case was read")
+    wrong = prover.differing(head(), list(USES), OWN, [claim(case) for case in cases], CHUNK)
+    for number in wrong:
+        print(f"differs: {cases[number].service}: {cases[number].label}")
+    if wrong:
+        sys.exit(f"definitions_check: {len(cases) - len(wrong)} cases agree, {len(wrong)} differ")
+    print(f"definitions_check: {len(cases)} cases agree")
+
+
+main()
