@@ -26,3 +26,11 @@ pub mod Gfa1Cuts
 pub mod Gfa1
 pub mod Gfa1Text
 pub mod Gfa1Table
+-- Laws for the proofs of the code.
+pub mod Parts
+pub mod Comparing
+pub mod SequenceLaws
+pub mod Writing
+pub mod Joining
+pub mod Repeating
+pub mod Digits

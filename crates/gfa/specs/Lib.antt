@@ -10,3 +10,6 @@ pub mod Calls
 pub mod Services
 pub mod Gfa1
 pub mod Gfa1Read
+-- What the contracts of the code say.
+pub mod Writers
+pub mod Numbers
