@@ -13,12 +13,12 @@ import prover
 
 # Where the definitions of the services stand: (crate, module of its specs) and the names taken from it.
 USES = {
-    ("gfa", "Bytes"): "same, all",
-    ("gfa", "Calls"): "Refusal, Outcome, answer",
-    ("gfa", "Services"): "spellPath",
-    ("normalize", "Counting"): "Stats",
-    ("normalize", "Services"): "Normal, normal, normalize",
-    ("report", "Services"): "reportText",
+    ("gfa_spec", "Bytes"): "same, all",
+    ("gfa_spec", "Calls"): "Refusal, Outcome, answer",
+    ("gfa_spec", "Services"): "spellPath",
+    ("normalize_spec", "Counting"): "Stats",
+    ("normalize_spec", "Services"): "Normal, normal, normalize",
+    ("report_spec", "Services"): "reportText",
 }
 SERVICES = {"report": "reportText", "normalize": "normalize", "spell": "spellPath"}
 CHUNK = 20

@@ -19,8 +19,8 @@ import prover
 
 # Where the grammar stands: (crate, module of its specs) and the names taken from it.
 USES = {
-    ("gfa", "Bytes"): "bytes, same, all, join",
-    ("gfa", "Gfa1"): "Visit, Record, allows, allows10, firstBroken, states, noComma",
+    ("gfa_spec", "Bytes"): "bytes, same, all, join",
+    ("gfa_spec", "Gfa1"): "Visit, Record, allows, allows10, firstBroken, states, noComma",
 }
 SEED, REAL, MUTATED, ENOUGH, LONGEST, CHUNK, SHOWN = 7, 300, 150, 50, 90, 50, 20
 

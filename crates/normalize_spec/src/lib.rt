@@ -1,0 +1,1 @@
+// What normalization means, with demand 3. Definitions in specs/, their laws in proofs/, and no code.

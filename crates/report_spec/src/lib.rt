@@ -1,0 +1,1 @@
+// What the report means. Definitions in specs/, their laws in proofs/, and no code.
