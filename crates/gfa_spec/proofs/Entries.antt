@@ -43,7 +43,7 @@ then-accepted (refused n) k b e = absurd (not-accepted e)
 then-accepted (accepted a) k b e = (a, refl, e)
 
 -- an orientation is a single + or -
-orientation-accepted : (n : ℕ) (s : List ℕ) (a : ℕ) → parseOrientation n s ≡ accepted a → (s ≡ a ∷ []) × (isOrientation a ≡ true)
+pub orientation-accepted : (n : ℕ) (s : List ℕ) (a : ℕ) → parseOrientation n s ≡ accepted a → (s ≡ a ∷ []) × (isOrientation a ≡ true)
 unfolding parseOrientation
 orientation-accepted n [] a e = absurd (not-accepted e)
 orientation-accepted n (b ∷ []) a e = go (isOrientation b) refl e

@@ -1,0 +1,51 @@
+-- `gfa::reading::read_line` meets its contract: the line's entry is put behind its record. Assumes nothing.
+use native.Mathlib.Omega.{arith}
+use borrow.Author.Needs.{needs}
+use Rattle.gfa.proofs.Adding.{line-refused, line-entered}
+use Rattle.gfa.proofs.reading.read_line.Statement.{statement}
+use Rattle.gfa.proofs.reading.read_line.Tie as tie
+
+add-record-requires : tie.Need-add-record-requires
+add-record-requires c κs = search needs
+
+enum-known-added : tie.Need-enum-known-added
+enum-known-added c = search needs
+
+enum-known-added-2 : tie.Need-enum-known-added-2
+enum-known-added-2 c = search needs
+
+mul-put-entry : tie.Need-mul-put-entry
+mul-put-entry c = search needs
+
+add-put-entry : tie.Need-add-put-entry
+add-put-entry c = search needs
+
+put-entry-requires : tie.Need-put-entry-requires
+put-entry-requires c κs = omega (arith, c .before .before .before .before .before .before .before .before .before .before .before .before .pre)
+
+same-length : tie.Need-same-length
+same-length c = search needs
+
+returns : tie.Need-returns
+returns c = line-refused (c .before .before .before .before .before .before .before .before .before .pre) (c .before .before .before .before .before .add-record .ensures) (c .before .added .given .1)
+
+same-length-2 : tie.Need-same-length-2
+same-length-2 c = search needs
+
+returns-2 : tie.Need-returns-2
+returns-2 c = line-entered (c .before .before .before .before .before .before .before .before .before .before .before .before .before .before .before .pre) (c .before .before .before .before .before .before .before .before .before .before .before .add-record .ensures) (c .before .before .before .before .before .before .before .added2 .given .1) (c .before .before .put-entry .ensures)
+
+pub read-line-spec : {M : Type 1} → statement M
+read-line-spec =
+    tie.close
+    (tie.spec
+    add-record-requires
+    enum-known-added
+    enum-known-added-2
+    mul-put-entry
+    add-put-entry
+    put-entry-requires
+    same-length
+    returns
+    same-length-2
+    returns-2)

@@ -1,0 +1,95 @@
+-- The step table, and what the reader does with the steps of a path.
+use Prim.Native.Nat.{ℕ, _+_, _*_, _≤_, _<_}
+use mathlib.Core.Bool.{true, cond}
+use mathlib.Core.List.{List, [], _∷_, _++_}
+use mathlib.Core.Path.{_≡_}
+use lib.ListN.{length, getD}
+use lib.Seq.{slice}
+use Rattle.gfa.specs.declared.tables.Checked.{Checked}
+use Rattle.gfa.specs.declared.tables.Checked.the-variants.{Value, Refused}
+use Rattle.gfa_spec.specs.Bytes.{Part, isEmpty}
+use Rattle.gfa_spec.specs.Reading.{Step, Read, refused, accepted, then, isOrientation, stepOf, parseItems, isMark, walk}
+use Rattle.scan.specs.Places.{partAt}
+use Rattle.work.specs.Rows.{rowsAt, EachRow, span, Only}
+
+-- ---- the table
+
+-- the step whose row is at the word `at`: start and length of its name, and its orientation
+unfoldable pub stepAt : List ℕ → List ℕ → ℕ → Step
+stepAt text work at = record { name = partAt text (getD work at 0) (getD work (at + 1) 0); orientation = getD work (at + 2) 0 }
+
+-- the first n steps of the table at `base`
+unfoldable pub stepsAt : List ℕ → List ℕ → ℕ → ℕ → List Step
+stepsAt text work base n = rowsAt (stepAt text) 3 work base n
+
+-- A step's row names a part of the text, with + or -.
+pub record StepRow (text work : List ℕ) (at : ℕ) : Type 0 where
+  pub name : getD work at 0 + getD work (at + 1) 0 ≤ length text
+  pub mark : isOrientation (getD work (at + 2) 0) ≡ true
+
+-- ---- the steps of a field
+
+-- The steps that are read stand in the table at `base`, at most one for every two bytes of the field; only their rows changed.
+pub record StepsPut (text work work' : List ℕ) (base size m : ℕ) (r : Read (List Step)) : Type 0 where
+  pub read : r ≡ accepted (stepsAt text work' base m)
+  pub few : 2 * m ≤ size
+  pub rows : EachRow (StepRow text) 3 work' base m
+  pub long : length work' ≡ length work
+  pub only : Only (span base (base + 3 * m) ∷ []) work work'
+
+-- by the cases of the answer
+abbrev pub StepsSay : List ℕ → List ℕ → List ℕ → ℕ → ℕ → Read (List Step) → Checked → Type 0
+StepsSay text work work' base size r (Value m) = StepsPut text work work' base size m r
+StepsSay text work work' base size r (Refused k) = r ≡ refused k
+
+-- What the answer to a field of steps says; r is what the definitions read there.
+pub record StepsIs (text work work' : List ℕ) (base size : ℕ) (r : Read (List Step)) (c : Checked) : Type 0 where
+  pub says : StepsSay text work work' base size r c
+
+-- ---- the items of a P line
+
+-- steps put before those that are read
+unfoldable pub addSteps : List Step → Read (List Step) → Read (List Step)
+addSteps xs r = then r (λ ys. accepted (xs ++ ys))
+
+-- the steps of an item: none where it is empty
+unfoldable pub itemSteps : Part → List Step
+itemSteps item = cond (isEmpty (item .bytes)) [] (stepOf item ∷ [])
+
+-- the item that stands from `from` up to `to`
+unfoldable pub itemAt : List ℕ → ℕ → ℕ → Part
+itemAt text from to = record { at = from; bytes = slice from to text }
+
+-- The item is refused, whatever follows it.
+pub record ItemBad (text : List ℕ) (from to k : ℕ) : Type 0 where
+  pub read : (more : List Part) → parseItems (itemAt text from to ∷ more) ≡ refused k
+
+-- The item is read, and the table has m steps with it, at most one more for every two bytes; only their rows changed.
+pub record ItemRead (text work work' : List ℕ) (base n from to m : ℕ) : Type 0 where
+  pub read : (more : List Part) → parseItems (itemAt text from to ∷ more) ≡ addSteps (itemSteps (itemAt text from to)) (parseItems more)
+  pub table : stepsAt text work' base m ≡ stepsAt text work base n ++ itemSteps (itemAt text from to)
+  pub rows : EachRow (StepRow text) 3 work base n → EachRow (StepRow text) 3 work' base m
+  pub low : n ≤ m
+  pub high : 2 * m + from ≤ 2 * n + to
+  pub one : m ≤ n + 1
+  pub long : length work' ≡ length work
+  pub only : Only (span (base + 3 * n) (base + 3 * m) ∷ []) work work'
+
+-- by the cases of the answer
+abbrev pub ItemSays : List ℕ → List ℕ → List ℕ → ℕ → ℕ → ℕ → ℕ → Checked → Type 0
+ItemSays text work work' base n from to (Value m) = ItemRead text work work' base n from to m
+ItemSays text work work' base n from to (Refused k) = ItemBad text from to k
+
+-- What the answer to an item says.
+pub record ItemIs (text work work' : List ℕ) (base n from to : ℕ) (r : Checked) : Type 0 where
+  pub says : ItemSays text work work' base n from to r
+
+-- ---- the marks of a W line
+
+-- The first mark from `from` up to `to`, or `to`: the walk from `from` on goes on there.
+pub record MarkIs (text : List ℕ) (from to r : ℕ) : Type 0 where
+  pub before : walk from (slice from to text) .before ≡ slice from r text
+  pub steps : walk from (slice from to text) .steps ≡ walk r (slice r to text) .steps
+  pub mark : r < to → isMark (getD text r 0) ≡ true
+  pub low : from ≤ r
+  pub high : r ≤ to

@@ -1,0 +1,108 @@
+// The reader of any text into any work area: refusals 1 to 17 in their order, or the tables.
+ghost use mathlib.Core.Path.{_≡_};
+ghost use Prim.Native.Nat.{_+_, _*_, _≤_};
+ghost use lib.ListN.{length};
+ghost use Rattle.gfa_spec.specs.Reading.{lines};
+ghost use Rattle.gfa.specs.Room.{TallyIs, basesOf};
+ghost use Rattle.gfa.specs.Inputs.{BadIs, InputIs};
+use crate::counting::count_text;
+use crate::reading::Answer;
+use crate::reading::read_lines;
+use crate::tables::Bases;
+use crate::tables::Counts;
+
+// A refusal: its number, and the line, offset and length that document 01 names for it; else 0.
+pub struct Refusal {
+    pub number: usize,
+    pub line: usize,
+    pub from: usize,
+    pub length: usize,
+}
+
+// A byte that no text has, by its refusal and its place; or none.
+pub enum Bad {
+    Nowhere,
+    At(usize, usize),
+}
+
+// What became of a text: where its tables are and how many rows they have, or a refusal.
+pub enum Input {
+    Tables(Bases, Counts),
+    Refused(Refusal),
+}
+
+// The first byte of 128 or more (2), or carriage return not followed at once by a line feed (3).
+pub fn bad_byte(text: &[u8]) -> Bad
+    ensures { λ r. ⌜ BadIs (now (text .entry)) r ⌝ }
+{
+    let mut i = 0;
+    while i < text.len() {
+        let b = text[i];
+        if 128 <= b {
+            return Bad::At(2, i);
+        }
+        let next = i + 1;
+        if b == 13 {
+            if next == text.len() {
+                return Bad::At(3, i);
+            }
+            if text[next] != 10 {
+                return Bad::At(3, i);
+            }
+        }
+        i = next;
+    }
+    Bad::Nowhere
+}
+
+// The tables, one behind the other, each but the last with a row to spare.
+pub fn bases_of(text: &[u8]) -> Bases
+    requires { ⌜ length (now text) ≤ 1048576 ⌝ }
+    ensures { λ r. ⌜ r ≡ basesOf (lines (now (text .entry))) ⌝ }
+{
+    let t = count_text(text);
+    let segs = 3 * t.lines + 3;
+    let links = segs + 6 * t.segs + 6;
+    let paths = links + 8 * t.links + 8;
+    let steps = paths + 5 * t.paths + 5;
+    Bases {
+        lines: 0,
+        segs,
+        links,
+        paths,
+        steps,
+    }
+}
+
+fn refused(number: usize, line: usize, from: usize) -> Input
+    ensures { λ r. ⌜ r ≡ Input.Refused (record { number = number; line = line; from = from; length = 0 }) ⌝ }
+{
+    Input::Refused(Refusal {
+        number,
+        line,
+        from,
+        length: 0,
+    })
+}
+
+// Reads a text into tables in the work area.
+pub fn parse_gfa(text: &[u8], work: &mut [u32]) -> Input
+    ensures { λ r. ⌜ InputIs (now (text .entry)) (now (work .entry)) (now (work .exit)) r ⌝ }
+{
+    if 1048576 < text.len() {
+        return refused(1, 0, 0);
+    }
+    let bad = bad_byte(text);
+    if let Bad::At(k, place) = bad {
+        return refused(k, 0, place);
+    }
+    if work.len() < 4 * text.len() + 64 {
+        return refused(4, 0, 0);
+    }
+    let b = bases_of(text);
+    let answer = read_lines(text, work, b);
+    match answer {
+        Answer::Read(n) => Input::Tables(b, n),
+        Answer::Refused(k, line) => refused(k, line, 0),
+    }
+}

@@ -1,0 +1,42 @@
+// The sort of a line.
+ghost use Prim.Native.Nat.{_+_, _≤_};
+ghost use lib.ListN.{length};
+ghost use Rattle.gfa.specs.Sorts.{SortIs};
+use scan::places::find;
+
+// The sorts of lines. A path's kind is 0 for a P line and 1 for a W line.
+pub enum Sort {
+    Blank,
+    Comment,
+    Header,
+    Segment,
+    Link,
+    Path(usize),
+    Other,
+}
+
+// The sort of the line that starts at `start`.
+pub fn sort_of(text: &[u8], start: usize, size: usize) -> Sort
+    requires { ⌜ start + size ≤ length (now text) ⌝ }
+    ensures { λ r. ⌜ SortIs (now (text .entry)) start size r ⌝ }
+{
+    if size == 0 {
+        return Sort::Blank;
+    }
+    let first = text[start];
+    if first == 35 {
+        return Sort::Comment;
+    }
+    let tab = find(text, 9, start, start + size);
+    if tab != start + 1 {
+        return Sort::Other;
+    }
+    match first {
+        72 => Sort::Header,
+        83 => Sort::Segment,
+        76 => Sort::Link,
+        80 => Sort::Path(0),
+        87 => Sort::Path(1),
+        _ => Sort::Other,
+    }
+}

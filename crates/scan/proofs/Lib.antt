@@ -1,0 +1,6 @@
+-- Laws for the proofs of the code.
+pub mod Finding
+pub mod Cutting
+pub mod LineEnds
+pub mod Fields
+pub mod SameNames

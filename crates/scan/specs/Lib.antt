@@ -1,0 +1,2 @@
+-- What the contracts on places in a text say.
+pub mod Places

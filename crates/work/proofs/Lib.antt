@@ -1,0 +1,3 @@
+-- Laws of rows and stores.
+pub mod Stores
+pub mod Rows

@@ -1,0 +1,2 @@
+-- What the contracts on the work area say.
+pub mod Rows

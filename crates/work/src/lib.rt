@@ -1,0 +1,2 @@
+// The work area: words that are read, rows that are stored.
+pub mod work;
