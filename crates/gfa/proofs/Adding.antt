@@ -1,12 +1,11 @@
 -- A line's record put into its table. Assumes nothing.
-use Prim.Native.Nat.{ℕ, suc, _+_, _*_, _-_, _≤_, _<_}
-use native.Mathlib.Nat.{mul-suc}
+use Prim.Native.Nat.{ℕ, _+_, _*_, _-_, _≤_, _<_}
 use native.Mathlib.Numerals.{add-one}
 use native.Mathlib.Omega.{arith}
 use mathlib.Core.List.{List, [], _∷_}
-use mathlib.Core.Logic.{inl, inr}
+use mathlib.Core.Logic.{inr}
 use mathlib.Core.Path.{_≡_, refl, ap, sym, _∙_}
-use lib.ListN.{length, getD}
+use lib.ListN.{length}
 use lib.Seq.{sets, length-sets}
 use borrow.Author.Tests.{lt-ltb, le-ltb}
 use Rattle.gfa.specs.declared.entry.Record.{Record}
@@ -26,11 +25,10 @@ use Rattle.scan.specs.Places.{partAt, FoundAt, FewFields}
 use Rattle.gfa.specs.Sorts.{SortIs, readAs}
 use Rattle.gfa.specs.Tables.{checkedOf, oneMore}
 use Rattle.gfa.specs.Segments.{segmentsAt, idsOf, FoundIs}
-use Rattle.gfa.specs.Steps.{StepRow, StepsPut}
+use Rattle.gfa.specs.Steps.{StepsPut}
 use Rattle.gfa.specs.Paths.{kindOf, columnOf, shortOf, stepsOf}
-use Rattle.gfa.specs.Entries.{wordsOf, recordAt, entryOf}
-use Rattle.gfa.specs.Room.{spareIn}
-use Rattle.gfa.specs.Lines.{segsOf, linksOf, pathsOf, NewRow, Ready, Entered, LineRefused, AddedIs, LineRead}
+use Rattle.gfa.specs.Entries.{wordsOf, entryOf}
+use Rattle.gfa.specs.Lines.{segsOf, linksOf, pathsOf, NewRow, Ready, Entered, AddedIs, LineRead}
 use Rattle.scan.proofs.Fields.{field-bytes}
 use Rattle.gfa.proofs.Numbers.{found-known, found-new}
 use Rattle.work.proofs.Rows.{Kept, only-none, only-put, only-then, only-wider, only-kept, kept-within, outside-less}

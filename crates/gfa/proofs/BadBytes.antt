@@ -18,7 +18,7 @@ use Rattle.gfa.specs.declared.reading.Answer.{Answer}
 use Rattle.gfa.specs.declared.reading.Answer.the-variants as answer
 use Rattle.gfa_spec.specs.Calls.{plainly, onLine, atPlace, badByte, ofParsed, ofBytes, input}
 use Rattle.gfa.specs.Lines.{AnswerIs}
-use Rattle.gfa.specs.Inputs.{BadIs, InputIs}
+use Rattle.gfa.specs.Inputs.{BadIs, InputIs, lineRefusal}
 
 -- a byte of 128 or more
 high-byte : (at b : ℕ) (rest : List ℕ) → 128 ≤ b → badByte at (b ∷ rest) ≡ some (atPlace 2 at)
@@ -115,8 +115,8 @@ module _ {text before work : List ℕ} where
                   };
             }
 
-        pub input-refused : {r : Input} {k line : ℕ} → a ≡ answer.Refused k line → r ≡ answered.Refused (record { number = k; line = line; from = 0; length = 0 }) → InputIs text before work r
+        pub input-refused : {r : Input} {k line : ℕ} → a ≡ answer.Refused k line → r ≡ answered.Refused (lineRefusal a) → InputIs text before work r
         unfolding input ofBytes ofParsed onLine
         input-refused q p =
             let z = rw q at (y .says) in
-            rw p (record { says = rw (le-ltb 1048576 (length text) s, (rw e at (b .says)), le-ltb (length before) (4 * length text + 64) h, z .read) })
+            rw (p, q) (record { says = rw (le-ltb 1048576 (length text) s, (rw e at (b .says)), le-ltb (length before) (4 * length text + 64) h, z .read) })

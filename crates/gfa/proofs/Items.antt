@@ -9,10 +9,10 @@ use mathlib.Core.Logic.{inl}
 use mathlib.Core.Path.{_≡_, refl, ap, sym, _∙_}
 use lib.ListN.{length, getD}
 use lib.Seq.{sets, slice, slice-empty, length-slice, length-sets}
-use Rattle.gfa_spec.specs.Bytes.{isEmpty, lastByte}
+use Rattle.gfa_spec.specs.Bytes.{part, isEmpty, lastByte}
 use Rattle.gfa_spec.specs.Reading.{Step, Read, refused, accepted, then, isOrientation, isStep, stepOf, parseItems}
 use Rattle.scan.specs.Places.{partAt}
-use Rattle.gfa.specs.Steps.{stepAt, stepsAt, addSteps, itemSteps, itemAt, ItemBad, ItemRead}
+use Rattle.gfa.specs.Steps.{stepAt, stepsAt, addSteps, itemSteps, ItemBad, ItemRead}
 use Rattle.scan.proofs.Cutting.{part-range}
 use Rattle.work.proofs.Rows.{only-none, only-put, only-kept, rows-snoc, each-more}
 use Rattle.gfa.proofs.TableRows.{steps-kept, step-rows-kept, step-put, step-row-put}
@@ -48,12 +48,13 @@ add-none (accepted ys) = refl
 
 -- an empty item is skipped
 pub item-none : {text work : List ℕ} {base n from to : ℕ} → from ≡ to → ItemRead text work work base n from to n
-unfolding parseItems itemSteps itemAt isEmpty
-item-none {text} {work} e =
+unfolding parseItems itemSteps partAt part isEmpty
+item-none {text} {work} {from = from} e =
+    let z : from - from ≡ 0 = omega arith in
     rw (← e)
     (record {
-      read = λ more. rw slice-empty (sym (add-none (parseItems more)));
-      table = rw slice-empty (sym (append-nil _));
+      read = λ more. rw z (sym (add-none (parseItems more)));
+      table = rw z (sym (append-nil _));
       rows = λ e. e;
       low = omega arith;
       high = omega arith;
@@ -68,16 +69,16 @@ pub record Item (text : List ℕ) (from to : ℕ) : Type 0 where
   pub inside : to ≤ length text
 
 module _ {text : List ℕ} {from to : ℕ} (i : Item text from to) where
-  cut : slice from to text ≡ slice from (to - 1) text ++ (getD text (to - 1) 0 ∷ [])
-  cut = last-byte text from to (i .some) (i .inside)
+  cut : part from (to - from) text ≡ slice from (to - 1) text ++ (getD text (to - 1) 0 ∷ [])
+  cut = part-range from to text (omega arith) ∙ last-byte text from to (i .some) (i .inside)
 
   -- its last byte is no orientation, or there is no name before it
   pub item-no-mark : {r : Bool} → r ≡ isOrientation (getD text (to - 1) 0) → r ≡ false → ItemBad text from to 13
-  unfolding parseItems isStep itemAt
+  unfolding parseItems isStep partAt
   item-no-mark e f = record { read = λ more. rw (cut, snoc-not-empty, last-snoc, sym e ∙ f) }
 
   pub item-no-name : from ≡ to - 1 → ItemBad text from to 13
-  unfolding parseItems isStep itemAt isEmpty
+  unfolding parseItems isStep partAt isEmpty
   item-no-name e = record { read = λ more. rw (cut, snoc-not-empty, drop-snoc, ← e, slice-empty, and-false) }
 
   -- a step is put into the table
@@ -85,7 +86,7 @@ module _ {text : List ℕ} {from to : ℕ} (i : Item text from to) where
       base + 3 * n + 3 ≤ length work →
       work' ≡ sets work (base + 3 * n) (from ∷ (to - 1 - from) ∷ getD text (to - 1) 0 ∷ []) →
       ItemRead text work work' base n from to (n + 1)
-  unfolding parseItems isStep itemAt itemSteps stepOf addSteps partAt
+  unfolding parseItems isStep itemSteps stepOf addSteps partAt
   item-put {work} {work'} {base} {n} o t e h q =
       let at = base + 3 * n in
       let row = from ∷ (to - 1 - from) ∷ getD text (to - 1) 0 ∷ [] in

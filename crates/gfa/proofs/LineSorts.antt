@@ -14,8 +14,9 @@ use Rattle.gfa_spec.specs.Reading.{fields, field, parseFields, parseLine, start
 use Rattle.scan.specs.Places.{FirstIs, partAt}
 use Rattle.gfa.specs.Sorts.{SortIs, readAs}
 use Rattle.gfa.specs.Paths.{kindOf, letterOf, parsePath}
-use Rattle.scan.proofs.SameNames.{same-lengths}
-use Rattle.scan.proofs.Cutting.{part-slice, part-first, split-range}
+use Rattle.scan.proofs.Cutting.{part-slice, split-range}
+use Rattle.gfa_spec.proofs.Parts.{part-first}
+use Rattle.gfa_spec.proofs.Comparing.{same-length}
 
 module _ {text : List ℕ} {start size : ℕ} (h : start + size ≤ length text) where
   pub sort-blank : size ≡ 0 → SortIs text start size Blank
@@ -46,7 +47,7 @@ module _ {text : List ℕ} {start size tab : ℕ} (l : Fielded text start size t
 
   -- a first field of some other length than 1 is none of the five
   no-letter : (tab ≡ start + 1 → ⊥) → (b : ℕ) → same (field 0 (fields (partAt text start size))) (b ∷ []) ≡ false
-  no-letter e b = rw first-field (same-lengths _ _ (λ p. e (omega (arith, p, length-slice start tab text (omega arith)))))
+  no-letter e b = rw first-field (same-length _ _ (λ p. e (omega (arith, p, length-slice start tab text (omega arith)))))
 
   pub sort-long : (tab ≡ start + 1 → ⊥) → SortIs text start size Other
   unfolding parseFields readAs

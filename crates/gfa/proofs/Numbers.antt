@@ -6,13 +6,13 @@ use native.Mathlib.Omega.{arith}
 use mathlib.Core.Bool.{Bool, true, false, cond}
 use mathlib.Core.List.{List, [], _∷_, _++_}
 use mathlib.Core.Option.{Option, none, some, Option·map}
-use mathlib.Core.Path.{_≡_, refl, ap, sym, _∙_}
+use mathlib.Core.Path.{_≡_, refl, sym, _∙_}
 use lib.ListN.{length, getD}
 use Rattle.gfa.specs.declared.segments.Found.{Found}
 use Rattle.gfa.specs.declared.segments.Found.the-variants.{At, Nothing}
-use Rattle.gfa_spec.specs.Bytes.{part, same, any}
+use Rattle.gfa_spec.specs.Bytes.{part, same, any, nth}
 use Rattle.gfa_spec.specs.Reading.{Segment}
-use Rattle.gfa_spec.specs.Records.{segmentNumber}
+use Rattle.gfa_spec.specs.Records.{sequenceOf, segmentNumber}
 use Rattle.scan.specs.Places.{SameIs}
 use Rattle.work.specs.Rows.{rowsAt, EachRow}
 use Rattle.gfa.specs.Segments.{segmentAt, segmentsAt, SegmentRow, idsOf, foundAs, FoundIs}
@@ -60,6 +60,19 @@ number-there (s ∷ ss) name =
     (by-test (same (s .id) name)
     (λ e. rw e)
     (λ e. rw e (number-there ss name ∙ sym (map-there (segmentNumber ss name)))))
+
+-- the sequence of a name is that of the segment of its number
+pub number-sequence : (ss : List Segment) (name : List ℕ) (d : Segment) → sequenceOf ss name ≡ Option·map (λ k. nth k ss d .sequence) (segmentNumber ss name)
+unfolding sequenceOf segmentNumber nth
+number-sequence [] name d = refl
+number-sequence (s ∷ ss) name d =
+    by-test (same (s .id) name)
+    (λ e. rw e)
+    (λ e. rw e (number-sequence ss name d ∙ go (segmentNumber ss name)))
+  where
+    go : (o : Option ℕ) → Option·map (λ k. nth k ss d .sequence) o ≡ Option·map (λ k. nth k (s ∷ ss) d .sequence) (Option·map suc o)
+    go none = refl
+    go (some k) = refl
 
 -- ---- the search
 

@@ -1,5 +1,5 @@
 -- The reader's state between two lines, and how it goes on. Assumes nothing.
-use Prim.Native.Nat.{ℕ, zero, suc, _+_, _*_, _-_, _≤_, _<_}
+use Prim.Native.Nat.{ℕ, suc, _+_, _*_, _-_, _≤_, _<_}
 use native.Mathlib.Decide.{decLt}
 use native.Mathlib.Numerals.{add-one}
 use native.Mathlib.Omega.{arith}
@@ -24,15 +24,15 @@ use Rattle.gfa.specs.Segments.{segmentAt, segmentsAt, idsOf, SegmentRow}
 use Rattle.gfa.specs.Links.{linkAt, linksAt, LinkRow}
 use Rattle.gfa.specs.Steps.{StepRow}
 use Rattle.gfa.specs.Paths.{pathAt, pathsAt, PathRow}
-use Rattle.gfa.specs.Entries.{recordAt, entryOf, entryAt, entriesAt, Fits, EntryRow}
+use Rattle.gfa.specs.Entries.{recordAt, entryOf, entryAt, entriesAt, Fits}
 use Rattle.gfa.specs.Room.{segsIn, linksIn, pathsIn, spareIn, total, basesOf, share}
-use Rattle.gfa.specs.Lines.{rowsOf, Laid, Sound, Tables, Roomy, Ready, segsOf, linksOf, pathsOf, NewRow, Entered, LineRead, AnswerIs}
+use Rattle.gfa.specs.Lines.{rowsOf, Laid, Sound, Roomy, Ready, segsOf, linksOf, pathsOf, NewRow, Entered, LineRead, AnswerIs}
 use Rattle.gfa.proofs.Following.{follow, follow-none, follow-snoc, follow-refused, follow-end, parse-accepted, parse-refused, ids-entry}
 use Rattle.scan.proofs.LineEnds.{no-lines-at, all-lines}
 use Rattle.gfa.proofs.Room.{lines-sum, weight-text, tables-fit}
-use Rattle.work.proofs.Rows.{Kept, only-none, only-then, only-kept, outside-less, rows-snoc, rows-kept, each-kept, each-more, each-none}
+use Rattle.work.proofs.Rows.{Kept, only-none, only-then, only-kept, outside-less, rows-snoc, rows-kept, each-more, each-none}
 use Rattle.gfa_spec.proofs.Sorts.{append-sorted}
-use Rattle.gfa.proofs.TableRows.{segment-kept, segments-kept, segment-rows-kept, link-kept, links-kept, link-rows-kept, step-rows-kept, step-row-kept, path-kept, paths-kept, path-row-kept, record-kept}
+use Rattle.gfa.proofs.TableRows.{segment-kept, segments-kept, segment-rows-kept, link-kept, links-kept, link-rows-kept, step-row-kept, path-kept, paths-kept, path-row-kept, record-kept}
 
 -- ---- the rows that were there
 

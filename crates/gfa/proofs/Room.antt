@@ -8,38 +8,32 @@ use mathlib.Core.Path.{_≡_, refl, ap}
 use lib.Dec.{eqb}
 use lib.ListN.{length, getD}
 use borrow.Author.Tests.{ne-eqb}
-use Rattle.gfa_spec.specs.Bytes.{Part, part, isEmpty, longer, split, nth}
-use Rattle.gfa_spec.specs.Reading.{Kind, P, W, dropFinal, dropReturn, lineOf, lines, fields, nowhere}
+use Rattle.gfa_spec.specs.Bytes.{Part, bytesOf, sum, part, isEmpty, longer, split, nth}
+use Rattle.gfa_spec.specs.Reading.{Kind, P, W, dropFinal, lineOf, lines, fields, nowhere}
 use Rattle.gfa.specs.declared.tables.Counts.{Counts}
 use Rattle.scan.specs.Places.{partAt, FoundAt}
 use Rattle.gfa.specs.Tables.{oneMore}
 use Rattle.gfa.specs.Paths.{letterOf, columnOf}
 use Rattle.gfa.specs.Room.{starting, segsIn, linksIn, pathsIn, spareIn, total, basesOf}
 use Rattle.gfa.specs.Lines.{Spent}
-use Rattle.scan.proofs.Cutting.{part-first, part-length}
+use Rattle.gfa_spec.proofs.Parts.{part-first, length-part}
+use Rattle.gfa_spec.proofs.Lines.{dropReturn-front}
+use Rattle.gfa_spec.proofs.Splitting.{length-split}
 
 -- ---- weights
 
 -- the bytes of some parts, with a separator for each
 unfoldable pub weight : List Part → ℕ
-weight [] = 0
-weight (p ∷ ps) = suc (length (p .bytes)) + weight ps
+weight ps = sum (map length (map bytesOf ps)) + length ps
 
 -- what is split has one separator less
-pub weight-split : (b at : ℕ) (s : List ℕ) → weight (split b at s) ≡ suc (length s)
-unfolding weight split longer
-weight-split b at [] = refl
-weight-split b at (x ∷ xs) = go (eqb x b) (split b (suc at) xs) (weight-split b (suc at) xs)
-  where
-    go : (t : Bool) (ps : List Part) → weight ps ≡ suc (length xs) →
-        weight (cond t (record { at = at; bytes = [] } ∷ ps) (longer at x ps)) ≡ suc (suc (length xs))
-    go true ps h = omega arith
-    go false [] h = omega arith
-    go false (p ∷ ps) h = omega arith
+weight-split : (b at : ℕ) (s : List ℕ) → weight (split b at s) ≡ suc (length s)
+unfolding weight
+weight-split b at s = length-split b at s
 
 -- the end of a text, and of a line, weighs nothing
 weight-final : (ps : List Part) → weight (dropFinal ps) ≤ weight ps
-unfolding weight dropFinal
+unfolding weight sum bytesOf dropFinal
 weight-final [] = omega arith
 weight-final (p ∷ []) = go (isEmpty (p .bytes))
   where
@@ -48,20 +42,10 @@ weight-final (p ∷ []) = go (isEmpty (p .bytes))
     go false = omega arith
 weight-final (p ∷ (q ∷ ps)) = omega (arith, weight-final (q ∷ ps))
 
-return-shorter : (s : List ℕ) → length (dropReturn s) ≤ length s
-unfolding dropReturn
-return-shorter [] = omega arith
-return-shorter (b ∷ []) = go (eqb b 13)
-  where
-    go : (t : Bool) → length (cond t [] (b ∷ [])) ≤ 1
-    go true = omega arith
-    go false = omega arith
-return-shorter (b ∷ (c ∷ bs)) = omega (arith, return-shorter (c ∷ bs))
-
 weight-lines : (ps : List Part) → weight (map lineOf ps) ≤ weight ps
-unfolding weight lineOf
+unfolding weight sum bytesOf lineOf
 weight-lines [] = omega arith
-weight-lines (p ∷ ps) = omega (arith, weight-lines ps, return-shorter (p .bytes))
+weight-lines (p ∷ ps) = omega (arith, weight-lines ps, dropReturn-front (p .bytes) .0)
 
 -- the lines of a text weigh no more than its bytes, and one
 pub weight-text : (text : List ℕ) → weight (lines text) ≤ suc (length text)
@@ -87,7 +71,7 @@ line-fits (x ∷ (y ∷ ys)) = go (ℕ-discrete x 83) (ℕ-discrete x 76) (ℕ-d
 
 -- the rows of some lines, with what the lines leave, are four words for each byte and each line feed
 pub lines-sum : (ls : List Part) → 3 * length ls + 6 * total segsIn ls + 8 * total linksIn ls + 5 * total pathsIn ls + total spareIn ls ≡ 4 * weight ls
-unfolding weight total spareIn
+unfolding weight sum bytesOf total spareIn
 lines-sum [] = refl
 lines-sum (l ∷ ls) = omega (arith, line-fits (l .bytes), lines-sum ls)
 
@@ -99,14 +83,14 @@ tables-fit text = omega (arith, lines-sum (lines text), weight-text text)
 
 -- a part weighs no more than all, and one for each before it
 nth-weight : (k : ℕ) (ps : List Part) → k < length ps → suc (length (nth k ps nowhere .bytes)) + k ≤ weight ps
-unfolding weight nth
+unfolding weight sum bytesOf nth
 nth-weight k [] h = absurd (omega arith)
 nth-weight zero (p ∷ ps) h = omega arith
 nth-weight (suc k) (p ∷ ps) h = omega (arith, nth-weight k ps (omega arith))
 
 -- a part behind the first, which has a byte
 later-weight : (k : ℕ) (ps : List Part) → suc k < length ps → 0 < length (nth 0 ps nowhere .bytes) → suc (suc (suc (length (nth (suc k) ps nowhere .bytes)))) + k ≤ weight ps
-unfolding weight nth
+unfolding weight sum bytesOf nth
 later-weight k [] h s = absurd (omega arith)
 later-weight k (p ∷ ps) h s = omega (arith, nth-weight k ps (omega arith))
 
@@ -123,12 +107,12 @@ module _ {text : List ℕ} {start size k at long : ℕ} (h : start + size ≤ le
   -- the length of a field that is found
   field-long : length (nth (suc k) (fields (partAt text start size)) nowhere .bytes) ≡ long
   unfolding partAt
-  field-long = rw (f .field) (part-length at long text (f .inside))
+  field-long = rw (f .field) (length-part at long text (f .inside))
 
   -- a line with a second field is not empty
   field-some : k + 1 ≤ size
   unfolding fields partAt
-  field-some = omega (arith, nth-weight (suc k) (fields (partAt text start size)) (f .more), weight-split 9 start (part start size text), part-length start size text h)
+  field-some = omega (arith, nth-weight (suc k) (fields (partAt text start size)) (f .more), weight-split 9 start (part start size text), length-part start size text h)
 
   -- a field behind the first is shorter than the line by its place and one
   pub field-short : (getD text start 0 ≡ 9 → ⊥) → long + (k + 2) ≤ size
@@ -137,7 +121,7 @@ module _ {text : List ℕ} {start size k at long : ℕ} (h : start + size ≤ le
       let b = part-first start size text (omega (arith, field-some)) h in
       let s = first-some start (getD text start 0) (part (suc start) (size - 1) text) n in
       let t : 0 < length (nth 0 (fields (partAt text start size)) nowhere .bytes) = rw b s in
-      omega (arith, field-long, later-weight k (fields (partAt text start size)) (f .more) t, weight-split 9 start (part start size text), part-length start size text h)
+      omega (arith, field-long, later-weight k (fields (partAt text start size)) (f .more) t, weight-split 9 start (part start size text), length-part start size text h)
 
 -- the field of a path's steps
 pub column-short : (k : Kind) {text : List ℕ} {start size at long : ℕ} → start + size ≤ length text → getD text start 0 ≡ letterOf k →
@@ -160,29 +144,29 @@ module _ (text : List ℕ) (start size : ℕ) (n : Counts) (h : start + size ≤
   unfolding segsIn linksIn pathsIn starting spareIn
   spent-segment s e =
       let t = two-bytes text start size 83 h (omega arith) e in
-      omega (arith, ap segsIn t, ap linksIn t, ap pathsIn t, part-length start size text h)
+      omega (arith, ap segsIn t, ap linksIn t, ap pathsIn t, length-part start size text h)
 
   pub spent-link : 6 ≤ size → getD text start 0 ≡ 76 → Spent (part start size text) n (oneMore n 0 1 0 0)
   unfolding segsIn linksIn pathsIn starting spareIn
   spent-link s e =
       let t = two-bytes text start size 76 h (omega arith) e in
-      omega (arith, ap segsIn t, ap linksIn t, ap pathsIn t, part-length start size text h)
+      omega (arith, ap segsIn t, ap linksIn t, ap pathsIn t, length-part start size text h)
 
   -- a P or W line leaves its bytes, but one, for its steps
   pub path-spare : (k : Kind) → 2 ≤ size → getD text start 0 ≡ letterOf k → spareIn (part start size text) + 4 ≡ 4 * size
   unfolding segsIn linksIn pathsIn starting spareIn letterOf
   path-spare P s e =
       let t = two-bytes text start size 80 h s e in
-      omega (arith, ap segsIn t, ap linksIn t, ap pathsIn t, part-length start size text h)
+      omega (arith, ap segsIn t, ap linksIn t, ap pathsIn t, length-part start size text h)
   path-spare W s e =
       let t = two-bytes text start size 87 h s e in
-      omega (arith, ap segsIn t, ap linksIn t, ap pathsIn t, part-length start size text h)
+      omega (arith, ap segsIn t, ap linksIn t, ap pathsIn t, length-part start size text h)
 
   pub spent-path : (k : Kind) (m : ℕ) → 2 * m + 3 ≤ size → getD text start 0 ≡ letterOf k → Spent (part start size text) n (oneMore n 0 0 1 m)
   unfolding segsIn linksIn pathsIn starting spareIn letterOf
   spent-path P m s e =
       let t = two-bytes text start size 80 h (omega arith) e in
-      omega (arith, ap segsIn t, ap linksIn t, ap pathsIn t, part-length start size text h)
+      omega (arith, ap segsIn t, ap linksIn t, ap pathsIn t, length-part start size text h)
   spent-path W m s e =
       let t = two-bytes text start size 87 h (omega arith) e in
-      omega (arith, ap segsIn t, ap linksIn t, ap pathsIn t, part-length start size text h)
+      omega (arith, ap segsIn t, ap linksIn t, ap pathsIn t, length-part start size text h)

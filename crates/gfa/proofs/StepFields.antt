@@ -1,10 +1,10 @@
 -- The fields that hold steps and orientations. Assumes nothing.
-use Prim.Native.Nat.{ℕ, suc, _+_, _*_, _-_, _≤_, _<_}
+use Prim.Native.Nat.{ℕ, suc, _+_, _-_, _≤_, _<_}
 use native.Mathlib.Numerals.{add-one}
 use native.Mathlib.Omega.{arith}
 use mathlib.Core.Bool.{Bool, true, false, cond}
-use mathlib.Core.List.{List, [], _∷_}
-use mathlib.Core.Path.{_≡_, refl, ap, sym, _∙_}
+use mathlib.Core.List.{List, []}
+use mathlib.Core.Path.{_≡_, refl, sym, _∙_}
 use lib.Dec.{ltb}
 use lib.ListN.{length, getD}
 use borrow.Author.Tests.{ne-eqb, lt-ltb, le-ltb}
@@ -17,7 +17,7 @@ use Rattle.work.specs.Rows.{rowsAt}
 use Rattle.gfa.specs.Tables.{checkedOf}
 use Rattle.gfa.specs.Steps.{stepsAt, StepsPut, StepsIs}
 use Rattle.gfa.specs.Paths.{kindOf, columnOf, shortOf, stepsOf, parsePath, pathFields}
-use Rattle.scan.proofs.Cutting.{part-first, part-length}
+use Rattle.gfa_spec.proofs.Parts.{part-first, length-part}
 use Rattle.gfa_spec.proofs.Entries.{orientation-accepted}
 use Rattle.scan.proofs.LineEnds as ends
 use Rattle.work.proofs.Rows.{only-none, each-none}
@@ -95,7 +95,7 @@ module _ {text : List ℕ} {start size : ℕ} {t : Bool} (i : StarIs text start 
   pub w-walk : {work work' : List ℕ} {base : ℕ} {c : Checked} → t ≡ false → start + size ≤ length text → (size ≡ 0 → ⊥) →
       StepsIs text work work' base size (nonEmpty (walk start (part start size text) .steps)) c → StepsIs text work work' base size (parseWSteps (partAt text start size)) c
   unfolding parseWSteps partAt
-  w-walk f h n p = rw (sym (i .answer) ∙ f, ends.nonEmpty (part start size text) (omega (arith, n, part-length start size text h))) p
+  w-walk f h n p = rw (sym (i .answer) ∙ f, ends.nonEmpty (part start size text) (omega (arith, n, length-part start size text h))) p
 
 -- by the kind's word
 module _ {text work work' : List ℕ} {base size kind : ℕ} {c : Checked} (start : ℕ) where

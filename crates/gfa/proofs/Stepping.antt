@@ -1,5 +1,5 @@
 -- The steps of a P line, one item at a time: the state, and how it goes on. Assumes nothing.
-use Prim.Native.Nat.{ℕ, suc, _+_, _*_, _≤_, _<_}
+use Prim.Native.Nat.{ℕ, suc, _+_, _*_, _-_, _≤_, _<_}
 use native.Mathlib.Decide.{decLt}
 use native.Mathlib.Numerals.{add-one}
 use native.Mathlib.Omega.{arith}
@@ -14,12 +14,12 @@ use Rattle.gfa.specs.declared.tables.Checked.{Checked}
 use Rattle.gfa.specs.declared.tables.Checked.the-variants.{Value, Refused}
 use Rattle.gfa_spec.specs.Bytes.{Part, part, split}
 use Rattle.gfa_spec.specs.Reading.{Step, Read, refused, accepted, then, parseItems}
-use Rattle.scan.specs.Places.{FirstIs}
+use Rattle.scan.specs.Places.{FirstIs, partAt}
 use Rattle.work.specs.Rows.{rowsAt, EachRow, span, Only}
-use Rattle.gfa.specs.Steps.{stepsAt, addSteps, itemSteps, itemAt, ItemIs, StepRow, StepsIs}
+use Rattle.gfa.specs.Steps.{stepsAt, addSteps, ItemIs, StepRow, StepsIs}
 use Rattle.work.proofs.Rows.{only-none, only-then, outside-less, each-none}
 use Rattle.gfa.proofs.Items.{add-none}
-use Rattle.scan.proofs.Cutting.{part-slice, split-more, split-last}
+use Rattle.scan.proofs.Cutting.{part-slice, part-range, split-more, split-last}
 
 -- the items from `at` on: none behind the end
 pub itemsFrom : List ℕ → ℕ → ℕ → List Part
@@ -35,9 +35,9 @@ items-none text at end h = simp (lt-leb at end h)
 
 -- the first item, and those behind it
 items-first : {text : List ℕ} {at end comma : ℕ} → FirstIs text 44 at end comma → at ≤ end → end ≤ length text →
-    itemsFrom text at end ≡ itemAt text at comma ∷ itemsFrom text (suc comma) end
-unfolding itemAt
-items-first {text} {at} {end} {comma} f h k = items-all text at end h ∙ go (decLt comma end)
+    itemsFrom text at end ≡ partAt text at (comma - at) ∷ itemsFrom text (suc comma) end
+unfolding partAt
+items-first {text} {at} {end} {comma} f h k = rw (part-range at comma text (f .low)) (items-all text at end h ∙ go (decLt comma end))
   where
     go : Dec (comma < end) → split 44 at (slice at end text) ≡ record { at = at; bytes = slice at comma text } ∷ itemsFrom text (suc comma) end
     go (yes l) = split-more f l k ∙ rw (items-all text (suc comma) end l)

@@ -13,8 +13,8 @@ use Rattle.scan.specs.Places.{linesAt, partAt, LineIs}
 use Rattle.gfa.specs.Room.{starting, segsIn, linksIn, pathsIn, total, TallyIs, LineTally}
 use Rattle.gfa_spec.specs.Bytes.{part}
 use Rattle.gfa.specs.Tables.{Few, noRows, oneMore}
-use Rattle.scan.proofs.Cutting.{part-length}
 use Rattle.scan.proofs.LineEnds.{no-lines-at, all-lines}
+use Rattle.gfa_spec.proofs.Parts.{length-part}
 use Rattle.gfa.proofs.Room.{lines-sum, weight-text, two-bytes}
 
 -- ---- a line
@@ -30,7 +30,7 @@ module _ (text : List ℕ) (n : Counts) (start size : ℕ) (h : start + size ≤
   unfolding segsIn linksIn pathsIn starting
   tally-short s =
       let line = part start size text in
-      let short : length line < 2 = omega (arith, part-length start size text h) in
+      let short : length line < 2 = omega (arith, length-part start size text h) in
       record {
         is = rw (one-byte segsIn refl (λ x. refl) line short, one-byte linksIn refl (λ x. refl) line short, one-byte pathsIn refl (λ x. refl) line short);
       }

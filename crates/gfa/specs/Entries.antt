@@ -1,4 +1,5 @@
--- The line table.
+-- The line table. Document 01, "Reading": a record is a segment, a link, a path, or a raw line of one of four sorts, held in the
+-- line's entry with its number or place.
 use Prim.Native.Nat.{ℕ, _+_, _*_, _≤_, _<_}
 use mathlib.Core.List.{List, [], _∷_}
 use mathlib.Core.Bool.{cond}

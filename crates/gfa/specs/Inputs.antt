@@ -11,6 +11,8 @@ use Rattle.gfa.specs.declared.input.Bad.the-variants as bad
 use Rattle.gfa.specs.declared.input.Refusal.{Refusal}
 use Rattle.gfa.specs.declared.input.Input.{Input}
 use Rattle.gfa.specs.declared.input.Input.the-variants as answered
+use Rattle.gfa.specs.declared.reading.Answer.{Answer}
+use Rattle.gfa.specs.declared.reading.Answer.the-variants as answer
 use Rattle.gfa_spec.specs.Calls as calls
 use Rattle.gfa_spec.specs.Calls.{atPlace, badByte, input}
 use Rattle.gfa.specs.Entries.{entriesAt}
@@ -25,9 +27,14 @@ BadSays text (bad.At n place) = badByte 0 text ≡ some (atPlace n place)
 pub record BadIs (text : List ℕ) (r : Bad) : Type 0 where
   pub says : BadSays text r
 
--- the refusal that an answer states, with all of its fields
-abbrev pub refusalOf : Refusal → calls.Refusal
-refusalOf r = record { number = r .number; line = r .line; from = r .from; length = r .length }
+-- the definition's refusal that an answer states, with all of its fields
+abbrev pub stated : Refusal → calls.Refusal
+stated r = record { number = r .number; line = r .line; from = r .from; length = r .length }
+
+-- the refusal of a line, all 0 where there is none
+abbrev pub lineRefusal : Answer → Refusal
+lineRefusal (answer.Read n) = record { number = 0; line = 0; from = 0; length = 0 }
+lineRefusal (answer.Refused k line) = record { number = k; line = line; from = 0; length = 0 }
 
 -- The call is accepted, and the text's entries are those of the tables.
 pub record InputRead (text before work : List ℕ) (b : Bases) (n : Counts) : Type 0 where
@@ -37,7 +44,7 @@ pub record InputRead (text before work : List ℕ) (b : Bases) (n : Counts) : Ty
 -- by the cases of the answer
 abbrev pub InputSays : List ℕ → List ℕ → List ℕ → Input → Type 0
 InputSays text before work (answered.Tables b n) = InputRead text before work b n
-InputSays text before work (answered.Refused r) = input text (length before) ≡ calls.Input.refusal (refusalOf r)
+InputSays text before work (answered.Refused r) = input text (length before) ≡ calls.Input.refusal (stated r)
 
 -- What the reader answers: the definition's refusal, or tables that hold what the definition reads.
 pub record InputIs (text before work : List ℕ) (r : Input) : Type 0 where

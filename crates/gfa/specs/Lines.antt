@@ -1,4 +1,4 @@
--- What the reader does with a line, and with all lines.
+-- What the reader does with a line, and with all lines. Document 01, the refusals 5 to 17.
 use Prim.Native.Nat.{ℕ, suc, _+_, _*_, _≤_, _<_}
 use mathlib.Core.List.{List, [], _∷_}
 use mathlib.Core.Path.{_≡_}
@@ -35,7 +35,7 @@ rowsOf b n m =
     ∷ span (b .steps + 3 * n .steps) (b .steps + 3 * m .steps)
     ∷ []
 
--- The tables stand one behind the other; behind the steps a share of words for each row, and 38 more, is left.
+-- The tables stand one behind the other. From the step table's base on there is a share of words for each row, and 38 more.
 pub record Laid (b : Bases) (n : Counts) (room : ℕ) : Type 0 where
   pub lines : b .lines + 3 * n .lines ≤ b .segs
   pub segs : b .segs + 6 * n .segs ≤ b .links
@@ -43,7 +43,7 @@ pub record Laid (b : Bases) (n : Counts) (room : ℕ) : Type 0 where
   pub paths : b .paths + 5 * n .paths ≤ b .steps
   pub steps : b .steps + share n + 38 ≤ room
 
--- What each row may be relied on for.
+-- What each row may be relied on for: its numbers are below the counts, and its starts and lengths name parts of the text.
 pub record Sound (text work : List ℕ) (b : Bases) (n : Counts) : Type 0 where
   pub lines : EachRow (EntryRow text n) 3 work (b .lines) (n .lines)
   pub segs : EachRow (SegmentRow text) 6 work (b .segs) (n .segs)

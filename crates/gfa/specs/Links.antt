@@ -1,4 +1,4 @@
--- The link table.
+-- The link table. Document 01, "Reading": link numbers count from 0.
 use Prim.Native.Nat.{ℕ, _+_, _≤_}
 use mathlib.Core.List.{List}
 use lib.ListN.{length, getD}

@@ -1,4 +1,5 @@
--- The path table, and what P and W lines have in common: the reader reads both by one function.
+-- The path table, and what P and W lines have in common: the reader reads both by one function. Document 01, "Forms that change":
+-- a path record holds a first step and a count.
 use Prim.Native.Nat.{ℕ, _+_, _*_, _≤_}
 use mathlib.Core.Bool.{cond}
 use mathlib.Core.List.{List, [], _∷_, _++_, map}

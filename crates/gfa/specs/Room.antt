@@ -1,5 +1,5 @@
 -- How much room the tables of a text take. Document 01, refusal 4: a work area has 4 words for each byte, and 64 more.
-use Prim.Native.Nat.{ℕ, suc, _+_, _*_, _-_, _≤_}
+use Prim.Native.Nat.{ℕ, suc, _+_, _*_, _-_}
 use mathlib.Core.Bool.{cond}
 use mathlib.Core.List.{List, [], _∷_}
 use mathlib.Core.Path.{_≡_}
@@ -57,6 +57,6 @@ basesOf ls =
       steps = 3 * length ls + 3 + 6 * total segsIn ls + 6 + 8 * total linksIn ls + 8 + 5 * total pathsIn ls + 5;
     }
 
--- the words from the step table's base on that so many rows may use: a step has 3 in its table and 5 more, a segment 7, a link 17, a path 8
+-- the words from the step table's base on that so many rows may use: a step 3 in its table and 5 more, a segment 7, a link 17, a path 8
 abbrev pub share : Counts → ℕ
 share n = 8 * n .steps + 7 * n .segs + 17 * n .links + 8 * n .paths

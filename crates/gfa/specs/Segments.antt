@@ -1,4 +1,4 @@
--- The segment table, and the search for a name in it.
+-- The segment table, and the search for a name in it. Document 01, "Reading": segment numbers count from 0.
 use Prim.Native.Nat.{ℕ, _+_, _≤_, _<_}
 use mathlib.Core.List.{List, map}
 use mathlib.Core.Option.{Option, none, some}

@@ -1,4 +1,4 @@
--- The sorts of a line, and how a line of each is read.
+-- The sorts of a line, and how a line of each is read. Document 01, "Reading".
 use Prim.Native.Nat.{ℕ, _<_}
 use mathlib.Core.List.{List}
 use mathlib.Core.Path.{_≡_}

@@ -1,5 +1,5 @@
--- The step table, and what the reader does with the steps of a path.
-use Prim.Native.Nat.{ℕ, _+_, _*_, _≤_, _<_}
+-- The step table, and what the reader does with the steps of a path. Document 01, "Reading", and the refusals 13 and 15 to 17.
+use Prim.Native.Nat.{ℕ, _+_, _*_, _-_, _≤_, _<_}
 use mathlib.Core.Bool.{true, cond}
 use mathlib.Core.List.{List, [], _∷_, _++_}
 use mathlib.Core.Path.{_≡_}
@@ -56,18 +56,14 @@ addSteps xs r = then r (λ ys. accepted (xs ++ ys))
 unfoldable pub itemSteps : Part → List Step
 itemSteps item = cond (isEmpty (item .bytes)) [] (stepOf item ∷ [])
 
--- the item that stands from `from` up to `to`
-unfoldable pub itemAt : List ℕ → ℕ → ℕ → Part
-itemAt text from to = record { at = from; bytes = slice from to text }
-
--- The item is refused, whatever follows it.
+-- The item from `from` up to `to` is refused, whatever follows it.
 pub record ItemBad (text : List ℕ) (from to k : ℕ) : Type 0 where
-  pub read : (more : List Part) → parseItems (itemAt text from to ∷ more) ≡ refused k
+  pub read : (more : List Part) → parseItems (partAt text from (to - from) ∷ more) ≡ refused k
 
 -- The item is read, and the table has m steps with it, at most one more for every two bytes; only their rows changed.
 pub record ItemRead (text work work' : List ℕ) (base n from to m : ℕ) : Type 0 where
-  pub read : (more : List Part) → parseItems (itemAt text from to ∷ more) ≡ addSteps (itemSteps (itemAt text from to)) (parseItems more)
-  pub table : stepsAt text work' base m ≡ stepsAt text work base n ++ itemSteps (itemAt text from to)
+  pub read : (more : List Part) → parseItems (partAt text from (to - from) ∷ more) ≡ addSteps (itemSteps (partAt text from (to - from))) (parseItems more)
+  pub table : stepsAt text work' base m ≡ stepsAt text work base n ++ itemSteps (partAt text from (to - from))
   pub rows : EachRow (StepRow text) 3 work base n → EachRow (StepRow text) 3 work' base m
   pub low : n ≤ m
   pub high : 2 * m + from ≤ 2 * n + to

@@ -1,10 +1,9 @@
--- Tables in the work area: rows of words. Segments, links, paths, steps and lines each have one.
-use Prim.Native.Nat.{ℕ, zero, suc, _+_, _*_, _≤_, _<_}
-use mathlib.Core.List.{List, [], _∷_, _++_}
-use mathlib.Core.Logic.{_⊎_}
-use mathlib.Core.Path.{_≡_}
-use lib.ListN.{getD}
+-- Where the tables of the reader begin and how many rows they have; and what becomes of a line or a field. Lines, segments, links, paths and
+-- steps each have a table. Document 01, "Forms that change".
+use Prim.Native.Nat.{ℕ, _+_, _≤_}
 use Rattle.gfa.specs.declared.tables.Counts.{Counts}
+use Rattle.gfa.specs.declared.tables.Added.{Added}
+use Rattle.gfa.specs.declared.tables.Added.the-variants as added
 use Rattle.gfa.specs.declared.tables.Checked.{Checked}
 use Rattle.gfa.specs.declared.tables.Checked.the-variants as checked
 use Rattle.gfa_spec.specs.Reading.{Read, refused, accepted}
@@ -27,7 +26,12 @@ abbrev pub checkedOf : Read ℕ → Checked
 checkedOf (refused k) = checked.Refused k
 checkedOf (accepted n) = checked.Value n
 
--- the number of a refusal, 0 for a value
+-- the number of a value's refusal, 0 where there is none
 abbrev pub refusalIn : Checked → ℕ
 refusalIn (checked.Value n) = 0
 refusalIn (checked.Refused k) = k
+
+-- the number of a line's refusal, 0 where there is none
+abbrev pub refusalOf : Added → ℕ
+refusalOf (added.Rows r m) = 0
+refusalOf (added.Refused k) = k

@@ -3,8 +3,8 @@ ghost use mathlib.Core.Path.{_≡_};
 ghost use Prim.Native.Nat.{_+_, _*_, _≤_};
 ghost use lib.ListN.{length};
 ghost use Rattle.gfa_spec.specs.Reading.{lines};
-ghost use Rattle.gfa.specs.Room.{TallyIs, basesOf};
-ghost use Rattle.gfa.specs.Inputs.{BadIs, InputIs};
+ghost use Rattle.gfa.specs.Room.{basesOf};
+ghost use Rattle.gfa.specs.Inputs.{BadIs, InputIs, lineRefusal};
 use crate::counting::count_text;
 use crate::reading::Answer;
 use crate::reading::read_lines;
@@ -74,6 +74,7 @@ pub fn bases_of(text: &[u8]) -> Bases
     }
 }
 
+// A refusal with its number, its line and its offset.
 fn refused(number: usize, line: usize, from: usize) -> Input
     ensures { λ r. ⌜ r ≡ Input.Refused (record { number = number; line = line; from = from; length = 0 }) ⌝ }
 {
@@ -83,6 +84,16 @@ fn refused(number: usize, line: usize, from: usize) -> Input
         from,
         length: 0,
     })
+}
+
+// The refusal of a line.
+fn refused_line(a: Answer) -> Input
+    ensures { λ r. ⌜ r ≡ Input.Refused (lineRefusal a) ⌝ }
+{
+    match a {
+        Answer::Read(_) => refused(0, 0, 0),
+        Answer::Refused(k, line) => refused(k, line, 0),
+    }
 }
 
 // Reads a text into tables in the work area.
@@ -101,8 +112,8 @@ pub fn parse_gfa(text: &[u8], work: &mut [u32]) -> Input
     }
     let b = bases_of(text);
     let answer = read_lines(text, work, b);
-    match answer {
-        Answer::Read(n) => Input::Tables(b, n),
-        Answer::Refused(k, line) => refused(k, line, 0),
-    }
+    let Answer::Read(n) = answer else {
+        return refused_line(answer);
+    };
+    Input::Tables(b, n)
 }

@@ -13,6 +13,7 @@ use crate::tables::Added;
 use crate::tables::Bases;
 use crate::tables::Counts;
 use crate::tables::one_more;
+use crate::tables::refusal_of;
 use scan::places::next_line;
 
 // What became of a text: the rows of its tables, or a refusal's number and line.
@@ -63,13 +64,11 @@ pub fn read_line(
     ensures { λ r. ⌜ LineRead (now (text .entry)) (now (work .entry)) (now (work .exit)) b n start size r ⌝ }
 {
     let added = add_record(text, work, b, n, start, size);
-    match added {
-        Added::Refused(k) => Added::Refused(k),
-        Added::Rows(held, m) => {
-            put_entry(work, b.lines + 3 * n.lines, LineEntry { holds: held });
-            Added::Rows(held, m)
-        }
-    }
+    let Added::Rows(held, m) = added else {
+        return added;
+    };
+    put_entry(work, b.lines + 3 * n.lines, LineEntry { holds: held });
+    Added::Rows(held, m)
 }
 
 // Reads every line of a text into the tables at `b`.
@@ -88,14 +87,10 @@ pub fn read_lines(text: &[u8], work: &mut [u32], b: Bases) -> Answer
     while at < text.len() {
         let line = next_line(text, at);
         let added = read_line(text, work, b, n, line.start, line.length);
-        match added {
-            Added::Refused(k) => {
-                return Answer::Refused(k, n.lines + 1);
-            }
-            Added::Rows(_, m) => {
-                n = m;
-            }
-        }
+        let Added::Rows(_, m) = added else {
+            return Answer::Refused(refusal_of(added), n.lines + 1);
+        };
+        n = m;
         at = line.next;
     }
     Answer::Read(n)

@@ -1,7 +1,7 @@
 // Where the tables are and how many rows they have; and what becomes of a line or a field.
 ghost use mathlib.Core.Path.{_≡_};
 ghost use Prim.Native.Nat.{_+_, _≤_};
-ghost use Rattle.gfa.specs.Tables.{Few, oneMore, refusalIn};
+ghost use Rattle.gfa.specs.Tables.{Few, oneMore, refusalIn, refusalOf};
 use crate::entry::Record;
 
 // Where the tables begin, in words of the work area.
@@ -48,12 +48,22 @@ pub fn one_more(n: Counts, segs: usize, links: usize, paths: usize, steps: usize
     }
 }
 
-// The number of a refusal.
+// The number of a value's refusal.
 pub fn refusal_in(c: Checked) -> usize
     ensures { λ r. ⌜ r ≡ refusalIn c ⌝ }
 {
     match c {
         Checked::Value(_) => 0,
         Checked::Refused(k) => k,
+    }
+}
+
+// The number of a line's refusal.
+pub fn refusal_of(a: Added) -> usize
+    ensures { λ r. ⌜ r ≡ refusalOf a ⌝ }
+{
+    match a {
+        Added::Rows(_, _) => 0,
+        Added::Refused(k) => k,
     }
 }

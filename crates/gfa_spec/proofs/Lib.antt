@@ -2,6 +2,8 @@
 pub mod Computing
 pub mod Tests
 pub mod Each
+pub mod Parts
+pub mod Comparing
 pub mod Copies
 pub mod Decimal
 pub mod Runs

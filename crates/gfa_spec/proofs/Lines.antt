@@ -87,7 +87,7 @@ each-dropFinal P (p ∷ []) h = go (isEmpty (p .bytes))
 each-dropFinal P (p ∷ (q ∷ ps)) h = (h .0, each-dropFinal P (q ∷ ps) (h .1))
 
 -- without its carriage return a line is a front of the line
-dropReturn-front : (l : List ℕ) → (length (dropReturn l) ≤ length l) × (take (length (dropReturn l)) l ≡ dropReturn l)
+pub dropReturn-front : (l : List ℕ) → (length (dropReturn l) ≤ length l) × (take (length (dropReturn l)) l ≡ dropReturn l)
 unfolding dropReturn
 dropReturn-front [] = (omega arith, refl)
 dropReturn-front (b ∷ []) = go (eqb b 13)

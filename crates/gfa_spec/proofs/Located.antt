@@ -20,7 +20,7 @@ use Rattle.gfa_spec.proofs.Sorts.{sorted-each}
 -- ---- parts of parts
 
 -- what is left of a front
-drop-front : (a k : ℕ) (l : List ℕ) → drop a (take (a + k) l) ≡ take k (drop a l)
+pub drop-front : (a k : ℕ) (l : List ℕ) → drop a (take (a + k) l) ≡ take k (drop a l)
 drop-front zero k l = ap (λ n. take n l) (zero-add k)
 drop-front (suc a) k [] = ap (drop (suc a)) (take-nil (suc a + k)) ∙ sym (take-nil k)
 drop-front (suc a) k (x ∷ l) = rw suc-add (drop-front a k l)

@@ -74,13 +74,13 @@ fn decimal(n: u64) {
 
 fn number(s: &[u8]) {
     label(b"number_of");
-    let n = writers::numbers::number_of(s, 0, s.len());
+    let n = scan::numbers::number_of(s, 0, s.len());
     match n {
-        writers::numbers::Number::Value(v) => {
+        scan::numbers::Number::Value(v) => {
             io::print_decimal(1, v);
             io::write_all(1, b"\n");
         }
-        writers::numbers::Number::None => {
+        scan::numbers::Number::None => {
             io::write_all(1, b"none\n");
         }
     }
@@ -102,18 +102,18 @@ fn number_line(name: &[u8], n: u64) {
 
 fn length(s: &[u8]) {
     label(b"sequence_len");
-    io::print_decimal(1, writers::sequences::sequence_len(s, 0, s.len()) as u64);
+    io::print_decimal(1, scan::sequences::sequence_len(s, 0, s.len()) as u64);
     io::write_all(1, b"\n");
 }
 
 fn star(s: &[u8]) {
     label(b"is_star");
-    answer(writers::sequences::is_star(s, 0, s.len()));
+    answer(scan::names::is_star(s, 0, s.len()));
 }
 
 fn constant(s: &[u8], t: &[u8]) {
     label(b"same_constant");
-    answer(writers::sequences::same_constant(s, 0, s.len(), t));
+    answer(scan::names::same_constant(s, 0, s.len(), t));
 }
 
 // The line that starts at a place: its start, its length and where the next one starts.

@@ -1,49 +1,29 @@
 -- Parts of a text, and how the first separator splits a range of it. Assumes nothing.
-use Prim.Native.Nat.{ℕ, zero, suc, _+_, _-_, _≤_, _<_}
-use native.Mathlib.Nat.{add-zero, zero-add, add-suc, suc-add}
+use Prim.Native.Nat.{ℕ, suc, _+_, _-_, _≤_, _<_}
+use native.Mathlib.Nat.{add-zero, add-suc, suc-add}
 use native.Mathlib.Omega.{arith}
 use mathlib.Core.Bool.{Bool, true, false, cond}
 use mathlib.Core.List.{List, [], _∷_}
-use mathlib.Core.Path.{_≡_, refl, ap, _∙_}
+use mathlib.Core.Path.{_≡_, refl, ap, sym, _∙_}
 use lib.Dec.{eqb}
-use lib.ListN.{length, getD, take, drop, length-take, length-drop}
-use lib.Seq.{slice, slice-cons, slice-empty, take-take, take-nil, drop-drop, drop-cons}
+use lib.ListN.{length, take, drop}
+use lib.Seq.{slice, slice-cons, slice-empty, take-take, drop-drop}
 use Rattle.gfa_spec.specs.Bytes.{Part, part, longer, split}
 use Rattle.scan.specs.Places.{before, FirstIs}
+use Rattle.gfa_spec.proofs.Located.{drop-front}
 
 -- ---- parts
-
--- a string cut in front and then short is cut short and then in front
-take-drop : (n f : ℕ) (l : List ℕ) → take n (drop f l) ≡ drop f (take (f + n) l)
-take-drop n zero l = rw zero-add
-take-drop n (suc f) [] = rw suc-add (take-nil n)
-take-drop n (suc f) (x ∷ xs) = rw suc-add (take-drop n f xs)
 
 -- a part of the text is what stands from its start up to its end
 pub part-slice : (at n : ℕ) (l : List ℕ) → part at n l ≡ slice at (at + n) l
 unfolding part
-part-slice at n l = take-drop n at l
+part-slice at n l = sym (drop-front at n l)
 
 -- what stands from one place up to another is a part
 pub part-range : (from to : ℕ) (l : List ℕ) → from ≤ to → part from (to - from) l ≡ slice from to l
 part-range from to l h =
     let e : from + (to - from) ≡ to = omega arith in
     part-slice from (to - from) l ∙ rw e
-
--- a part by its first byte
-pub part-cons : (at n : ℕ) (l : List ℕ) → at < length l → part at (suc n) l ≡ getD l at 0 ∷ part (suc at) n l
-unfolding part
-part-cons at n l h = rw (drop-cons l at 0 h)
-
-pub part-first : (at n : ℕ) (l : List ℕ) → 0 < n → at + n ≤ length l → part at n l ≡ getD l at 0 ∷ part (suc at) (n - 1) l
-part-first at n l p h =
-    let e : n ≡ suc (n - 1) = omega arith in
-    ap (λ k. part at k l) e ∙ part-cons at (n - 1) l (omega arith)
-
--- a part within the text is as long as it says
-pub part-length : (at n : ℕ) (l : List ℕ) → at + n ≤ length l → length (part at n l) ≡ n
-unfolding part
-part-length at n l h = simp (length-take, length-drop) (omega arith)
 
 -- ---- the first separator
 
@@ -66,7 +46,7 @@ split-first b at (x ∷ xs) = go (eqb x b) (split-first b (suc at) xs)
 
 -- a range cut short is a shorter range
 take-slice : (n f t : ℕ) (l : List ℕ) → f + n ≤ t → take n (slice f t l) ≡ slice f (f + n) l
-take-slice n f t l h = take-drop n f (take t l) ∙ ap (drop f) (take-take (f + n) t l h)
+take-slice n f t l h = sym (drop-front f n (take t l)) ∙ ap (drop f) (take-take (f + n) t l h)
 
 module _ {text : List ℕ} {b from to r : ℕ} (h : FirstIs text b from to r) where
   -- the first part of a range, and what is behind it

@@ -1,4 +1,4 @@
--- The search for a byte in a range of a text: its state, and how it goes on.
+-- The search for a byte in a range of a text: its state, and how it goes on. Assumes nothing.
 use Prim.Native.Nat.{ℕ, suc, _+_, _≤_, _<_}
 use native.Mathlib.Omega.{arith}
 use native.Mathlib.Numerals.{add-one}

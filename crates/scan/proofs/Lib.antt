@@ -4,3 +4,5 @@ pub mod Cutting
 pub mod LineEnds
 pub mod Fields
 pub mod SameNames
+pub mod SequenceLengths
+pub mod Numerals

@@ -3,24 +3,18 @@ use Prim.Native.Nat.{ℕ, suc, _+_, _-_, _≤_, _<_}
 use native.Mathlib.Nat.{add-zero, add-suc}
 use native.Mathlib.Numerals.{add-one}
 use native.Mathlib.Omega.{arith}
-use mathlib.Core.Bool.{Bool, true, false, _&&_, and-true, and-false}
+use mathlib.Core.Bool.{Bool, true, false, _&&_}
 use mathlib.Core.List.{List, [], _∷_}
-use mathlib.Core.Path.{_≡_, refl, ap, sym, _∙_}
+use mathlib.Core.Path.{_≡_, refl, sym, _∙_}
 use lib.Dec.{eqb}
 use lib.ListN.{length, getD}
 use lib.Seq.{slice, slice-cons, slice-empty}
 use borrow.Author.Tests.{eq-eqb, ne-eqb}
 use Rattle.gfa_spec.specs.Bytes.{part, same, star}
 use Rattle.scan.specs.Places.{SameIs, StarIs}
-use Rattle.scan.proofs.Cutting.{part-slice, part-cons, part-length}
-
--- strings of different lengths are not the same
-pub same-lengths : (x y : List ℕ) → (length x ≡ length y → ⊥) → same x y ≡ false
-unfolding same
-same-lengths [] [] h = absurd (h refl)
-same-lengths [] (y ∷ ys) h = refl
-same-lengths (x ∷ xs) [] h = refl
-same-lengths (x ∷ xs) (y ∷ ys) h = rw (same-lengths xs ys (λ e. h (ap suc e))) (and-false (eqb x y))
+use Rattle.gfa_spec.proofs.Parts.{part-cons, length-part}
+use Rattle.gfa_spec.proofs.Comparing.{same-length, same-star}
+use Rattle.scan.proofs.Cutting.{part-slice}
 
 -- the names as ranges
 parts : (text : List ℕ) (a m b n : ℕ) {r : Bool} → r ≡ same (slice a (a + m) text) (slice b (b + n) text) → r ≡ same (part a m text) (part b n text)
@@ -36,7 +30,7 @@ pub record Comparing (text : List ℕ) (a m b n i : ℕ) : Type 0 where
 
 module _ {text : List ℕ} {a m b n : ℕ} where
   pub names-differ : (a + m ≤ length text) × (b + n ≤ length text) → (m ≡ n → ⊥) → SameIs text a m b n false
-  names-differ h e = record { answer = sym (same-lengths _ _ (λ p. e (omega (arith, p, part-length a m text (h .0), part-length b n text (h .1))))) }
+  names-differ h e = record { answer = sym (same-length _ _ (λ p. e (omega (arith, p, length-part a m text (h .0), length-part b n text (h .1))))) }
 
   pub names-start : (a + m ≤ length text) × (b + n ≤ length text) → m ≡ n → Comparing text a m b n 0
   names-start h e = record { first = h .0; second = h .1; long = e; high = omega arith; rest = rw (add-zero a, add-zero b) refl }
@@ -68,16 +62,16 @@ module _ {text : List ℕ} {a m b n : ℕ} where
         let f : b + i ≡ b + n = omega arith in
         record { answer = parts text a m b n (sym (s .rest ∙ rw (e, f, slice-empty (a + m) text, slice-empty (b + n) text))) }
 
--- a part that is longer or shorter than one byte is not `*`
-pub star-long : {text : List ℕ} {start size : ℕ} → start + size ≤ length text → (size ≡ 1 → ⊥) → StarIs text start size false
-unfolding star
-star-long {text} {start} {size} h n = record { answer = sym (same-lengths _ _ (λ p. n (omega (arith, p, part-length start size text h)))) }
-
 -- a part of one byte
 pub one-byte : (text : List ℕ) (at size : ℕ) → at + size ≤ length text → size ≡ 1 → part at size text ≡ getD text at 0 ∷ []
 unfolding part
 one-byte text at size h e = rw (e, part-cons at 0 text (omega arith))
 
+-- a part that is longer or shorter than one byte is not `*`
+pub star-long : {text : List ℕ} {start size : ℕ} → start + size ≤ length text → (size ≡ 1 → ⊥) → StarIs text start size false
+unfolding star
+star-long {text} {start} {size} h n = record { answer = sym (same-length _ _ (λ p. n (omega (arith, p, length-part start size text h)))) }
+
+-- a part of one byte is `*` where the byte is
 pub star-byte : {text : List ℕ} {start size : ℕ} → start + size ≤ length text → size ≡ 1 → StarIs text start size (eqb (getD text start 0) 42)
-unfolding star same
-star-byte {text} {start} {size} h e = record { answer = rw (one-byte text start size h e) (sym (and-true _)) }
+star-byte {text} {start} {size} h e = record { answer = rw (one-byte text start size h e) (sym (same-star (getD text start 0))) }

@@ -1,2 +1,3 @@
--- What the contracts on places in a text say.
+-- What the contracts on places, names and numbers in a text say.
 pub mod Places
+pub mod Numbers

@@ -1,4 +1,4 @@
--- Places in a text: what the reader's starts and lengths stand for.
+-- Places in a text: what the reader's starts and lengths stand for. Document 01, "Forms that change": strings become offsets into the text.
 use Prim.Native.Nat.{ℕ, suc, _+_, _≤_, _<_}
 use mathlib.Core.Bool.{Bool, cond}
 use mathlib.Core.List.{List, [], _∷_, map}

@@ -28,6 +28,7 @@ pub record Range : Type 0 where
   pub from : ℕ
   pub to : ℕ
 
+-- the words from a up to b
 abbrev pub span : ℕ → ℕ → Range
 span a b = record { from = a; to = b }
 

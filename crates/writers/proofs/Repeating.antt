@@ -8,7 +8,7 @@ use lib.ListN.{length, take, drop, length-append}
 use lib.Seq.{sets, length-sets, sets-eq, length-take-le, take-take, take-add, take-append-le, drop-at}
 use Rattle.gfa_spec.specs.Bytes.{repeat, part}
 use Rattle.writers.specs.Writers.{Wrote}
-use Rattle.writers.proofs.Parts.{by-order, length-part}
+use Rattle.gfa_spec.proofs.Parts.{by-order, length-part}
 use Rattle.writers.proofs.Writing.{sets-append, turned}
 
 -- ---- a product and a limit

@@ -1,15 +1,14 @@
--- Laws of sequences: reversed and complemented, read in an orientation; their length and preview. Assumes nothing.
+-- Laws of sequences: reversed and complemented, read in an orientation; their preview. Assumes nothing.
 use Prim.Native.Nat.{ℕ, suc, _+_, _-_, _≤_, _<_}
 use native.Mathlib.Omega.{arith}
-use mathlib.Core.Bool.{true, false}
 use mathlib.Core.Path.{_≡_, ap, _∙_}
 use mathlib.Core.List.{List, [], _∷_, _++_, reverse, reverse-cons}
 use borrow.Author.Tests.{eq-eqb, ne-eqb, le-leb, lt-leb}
 use lib.ListN.{length, getD, take, length-map, length-reverse, List·getD-map, List·getD-append}
 use lib.Seq.{getD-at}
-use Rattle.gfa_spec.specs.Bytes.{bytes, same, star, part}
-use Rattle.gfa_spec.specs.Sequences.{complement, reverseComplement, oriented, sequenceLen, sequencePreview}
-use Rattle.writers.proofs.Parts.{by-order, length-part, getD-part}
+use Rattle.gfa_spec.specs.Bytes.{bytes, part}
+use Rattle.gfa_spec.specs.Sequences.{complement, reverseComplement, oriented, sequencePreview}
+use Rattle.gfa_spec.proofs.Parts.{by-order, length-part, getD-part}
 
 -- ---- reversed and complemented
 
@@ -60,16 +59,6 @@ unfolding oriented
 oriented-on comp o seq h = rw (ne-eqb o 45 h)
 
 -- ---- what the report says of a sequence
-
--- a sequence that is `*` has length 0
-pub star-length : (seq : List ℕ) → same seq star ≡ true → sequenceLen seq ≡ 0
-unfolding sequenceLen
-star-length seq e = rw e
-
--- any other has its own
-pub other-length : (seq : List ℕ) → same seq star ≡ false → sequenceLen seq ≡ length seq
-unfolding sequenceLen
-other-length seq e = rw e
 
 -- a sequence of at most 48 bytes is shown whole
 pub preview-short : (seq : List ℕ) → length seq ≤ 48 → sequencePreview seq ≡ seq

@@ -7,7 +7,7 @@ use mathlib.Core.List.{List, [], _∷_, _++_, append-nil, append-assoc}
 use lib.ListN.{length, getD, set, take, drop, length-append, length-take, take-append-drop}
 use lib.Seq.{sets, set-out, getD-set-other, length-sets, sets-eq, take-suc, take-all, length-take-le, take-take, take-append-le, take-append-add}
 use Rattle.writers.specs.Writers.{Wrote}
-use Rattle.writers.proofs.Parts.{by-order}
+use Rattle.gfa_spec.proofs.Parts.{by-order}
 
 infixl 30 _▷_
 -- ---- storing a list

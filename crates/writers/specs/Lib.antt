@@ -1,3 +1,2 @@
 -- What the contracts of the writers say.
 pub mod Writers
-pub mod Numbers

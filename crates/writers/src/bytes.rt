@@ -1,6 +1,6 @@
 // Byte writers. Each writes at a place of `out` as much as there is room for below `limit`, and answers the next place, which never
 // passes `limit`. So no writer has to be shown that its piece fits, no sum wraps, and on an empty buffer a writer measures.
-use crate::sequences::complement;
+use crate::complement::complement;
 ghost use mathlib.Core.Path.{_≡_};
 ghost use mathlib.Core.List.{_∷_, []};
 ghost use Prim.Native.Nat.{_+_, _-_, _*_, _≤_, min};

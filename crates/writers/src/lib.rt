@@ -1,5 +1,5 @@
-// The leaves that answers are made of: bytes written, numbers, tests on parts of a text.
+// The leaves that answers are made of: bytes and numbers, written.
 pub mod bytes;
+pub mod complement;
 pub mod numbers;
 pub mod pieces;
-pub mod sequences;

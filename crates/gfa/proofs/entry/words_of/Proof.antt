@@ -5,7 +5,6 @@ use borrow.Author.Needs.{needs}
 use Rattle.gfa.proofs.entry.words_of.Statement.{statement}
 use Rattle.gfa.proofs.entry.words_of.Tie as tie
 use Rattle.gfa.specs.Entries.{wordsOf}
-use Rattle.work.specs.Rows.{Small}
 
 enum-known-r : tie.Need-enum-known-r
 enum-known-r c = search needs

@@ -47,23 +47,23 @@ read-lines-requires c κs = rw (c .before .bases-of .ensures) (tables-roomy _ _ 
 enum-known-answer : tie.Need-enum-known-answer
 enum-known-answer c = search needs
 
-enum-known-answer-2 : tie.Need-enum-known-answer-2
-enum-known-answer-2 c = search needs
+enum-told-2 : tie.Need-enum-told-2
+enum-told-2 c = search needs
 
-refused-requires-4 : tie.Need-refused-requires-4
-refused-requires-4 c κs = search needs
+refused-line-requires : tie.Need-refused-line-requires
+refused-line-requires c κs = search needs
 
 same-length : tie.Need-same-length
 same-length c = search needs
 
 returns-4 : tie.Need-returns-4
-returns-4 c = input-read (c .before .before .before .before .before .before .before .before .before .before .before .before .if1 .left) (c .before .before .before .before .before .before .before .before .before .before .before .bad-byte .ensures) (c .before .before .before .before .before .before .before .before .before .enum-told .given .1) (c .before .before .before .before .before .before .before .before .if2 .left) (c .before .before .before .before .before .read-lines .ensures) (c .before .answer .given .1)
+returns-4 c = input-refused (c .before .before .before .before .before .before .before .before .before .before .before .before .if1 .left) (c .before .before .before .before .before .before .before .before .before .before .before .bad-byte .ensures) (c .before .before .before .before .before .before .before .before .before .enum-told .given .1) (c .before .before .before .before .before .before .before .before .if2 .left) (c .before .before .before .before .before .read-lines .ensures) (c .before .enum-told2 .given .1) (c .refused-line .ensures)
 
 same-length-2 : tie.Need-same-length-2
 same-length-2 c = search needs
 
 returns-5 : tie.Need-returns-5
-returns-5 c = input-refused (c .before .before .before .before .before .before .before .before .before .before .before .before .before .if1 .left) (c .before .before .before .before .before .before .before .before .before .before .before .before .bad-byte .ensures) (c .before .before .before .before .before .before .before .before .before .before .enum-told .given .1) (c .before .before .before .before .before .before .before .before .before .if2 .left) (c .before .before .before .before .before .before .read-lines .ensures) (c .before .before .answer2 .given .1) (c .refused4 .ensures)
+returns-5 c = input-read (c .before .before .before .before .before .before .before .before .before .before .before .before .if1 .left) (c .before .before .before .before .before .before .before .before .before .before .before .bad-byte .ensures) (c .before .before .before .before .before .before .before .before .before .enum-told .given .1) (c .before .before .before .before .before .before .before .before .if2 .left) (c .before .before .before .before .before .read-lines .ensures) (c .before .answer .given .1)
 
 pub parse-gfa-spec : {M : Type 1} → statement M
 parse-gfa-spec =
@@ -83,8 +83,8 @@ parse-gfa-spec =
     bases-of-requires
     read-lines-requires
     enum-known-answer
-    enum-known-answer-2
-    refused-requires-4
+    enum-told-2
+    refused-line-requires
     same-length
     returns-4
     same-length-2

@@ -11,8 +11,14 @@ add-record-requires c κs = search needs
 enum-known-added : tie.Need-enum-known-added
 enum-known-added c = search needs
 
-enum-known-added-2 : tie.Need-enum-known-added-2
-enum-known-added-2 c = search needs
+enum-told : tie.Need-enum-told
+enum-told c = search needs
+
+same-length : tie.Need-same-length
+same-length c = search needs
+
+returns : tie.Need-returns
+returns c = rw (c .enum-told .given .1) (line-refused (c .before .before .before .before .before .before .before .before .pre) (c .before .before .before .before .add-record .ensures) (c .enum-told .given .1))
 
 mul-put-entry : tie.Need-mul-put-entry
 mul-put-entry c = search needs
@@ -23,17 +29,11 @@ add-put-entry c = search needs
 put-entry-requires : tie.Need-put-entry-requires
 put-entry-requires c κs = omega (arith, c .before .before .before .before .before .before .before .before .before .before .before .before .pre)
 
-same-length : tie.Need-same-length
-same-length c = search needs
-
-returns : tie.Need-returns
-returns c = line-refused (c .before .before .before .before .before .before .before .before .before .pre) (c .before .before .before .before .before .add-record .ensures) (c .before .added .given .1)
-
 same-length-2 : tie.Need-same-length-2
 same-length-2 c = search needs
 
 returns-2 : tie.Need-returns-2
-returns-2 c = line-entered (c .before .before .before .before .before .before .before .before .before .before .before .before .before .before .before .pre) (c .before .before .before .before .before .before .before .before .before .before .before .add-record .ensures) (c .before .before .before .before .before .before .before .added2 .given .1) (c .before .before .put-entry .ensures)
+returns-2 c = line-entered (c .before .before .before .before .before .before .before .before .before .before .before .before .before .before .before .pre) (c .before .before .before .before .before .before .before .before .before .before .before .add-record .ensures) (c .before .before .before .before .before .before .before .added .given .1) (c .before .before .put-entry .ensures)
 
 pub read-line-spec : {M : Type 1} → statement M
 read-line-spec =
@@ -41,11 +41,11 @@ read-line-spec =
     (tie.spec
     add-record-requires
     enum-known-added
-    enum-known-added-2
+    enum-told
+    same-length
+    returns
     mul-put-entry
     add-put-entry
     put-entry-requires
-    same-length
-    returns
     same-length-2
     returns-2)

@@ -1,10 +1,12 @@
 -- `gfa::reading::read_lines` meets its contract. The loop's invariant is the reader's state between two lines. Assumes nothing.
 use Prim.Native.Nat.{_-_}
 use native.Mathlib.Omega.{arith}
+use mathlib.Core.Path.{ap, _∙_}
 use lib.ListN.{length}
 use Rattle.gfa.proofs.Progress.{Progress, progress-start, progress-ready, progress-refused, progress-more, progress-end}
 use Rattle.gfa.proofs.reading.read_lines.Statement.{statement}
 use Rattle.gfa.proofs.reading.read_lines.Tie as tie
+use Rattle.gfa.specs.Tables.{refusalOf}
 
 abbrev Inv-loop : tie.InvT-loop
 Inv-loop text work₀ b at₀ n₀ work at n = Progress text work₀ work b at n
@@ -24,6 +26,12 @@ read-line-requires c κs = progress-ready (c .before .before .before .loop .inv)
 enum-known-added : tie.Need-enum-known-added Inv-loop μ-loop
 enum-known-added c = omega arith
 
+enum-told : tie.Need-enum-told Inv-loop μ-loop
+enum-told c = omega arith
+
+refusal-of-requires : tie.Need-refusal-of-requires Inv-loop μ-loop
+refusal-of-requires c κs = omega arith
+
 add-t14 : tie.Need-add-t14 Inv-loop μ-loop
 add-t14 c = omega arith
 
@@ -31,16 +39,13 @@ same-length : tie.Need-same-length Inv-loop μ-loop
 same-length c = omega arith
 
 returns : tie.Need-returns Inv-loop μ-loop
-returns c = progress-refused (c .before .before .before .before .before .before .before .before .before .before .loop .inv) (c .before .before .before .before .before .before .before .before .next-line .ensures) (c .before .before .before .before .before .before .read-line .ensures) (c .before .before .added .given .1)
-
-enum-known-added-2 : tie.Need-enum-known-added-2 Inv-loop μ-loop
-enum-known-added-2 c = omega arith
+returns c = rw (c .before .refusal-of .ensures ∙ ap refusalOf (c .before .before .enum-told .given .1)) (progress-refused (c .before .before .before .before .before .before .before .before .before .before .loop .inv) (c .before .before .before .before .before .before .before .before .next-line .ensures) (c .before .before .before .before .before .before .read-line .ensures) (c .before .before .enum-told .given .1))
 
 loop-less : tie.Need-loop-less Inv-loop μ-loop
 loop-less c = omega arith
 
 loop-again : tie.Need-loop-again Inv-loop μ-loop
-loop-again c = progress-more (c .before .before .before .before .before .before .before .before .before .loop .inv) (c .before .before .before .before .before .before .before .next-line .ensures) (c .before .before .before .before .before .read-line .ensures) (c .before .added2 .given .1)
+loop-again c = progress-more (c .before .before .before .before .before .before .before .before .before .loop .inv) (c .before .before .before .before .before .before .before .next-line .ensures) (c .before .before .before .before .before .read-line .ensures) (c .before .added .given .1)
 
 same-length-2 : tie.Need-same-length-2 Inv-loop μ-loop
 same-length-2 c = omega arith
@@ -58,10 +63,11 @@ read-lines-spec =
     next-line-requires
     read-line-requires
     enum-known-added
+    enum-told
+    refusal-of-requires
     add-t14
     same-length
     returns
-    enum-known-added-2
     loop-less
     loop-again
     same-length-2

@@ -5,7 +5,7 @@ use mathlib.Core.Path.{_≡_, ap, _∙_}
 use lib.ListN.{length, take, length-set}
 use lib.Seq.{sets, take-all}
 use borrow.Author.Needs.{needs}
-use Rattle.writers.proofs.Parts.{length-part, getD-part}
+use Rattle.gfa_spec.proofs.Parts.{length-part, getD-part}
 use Rattle.writers.proofs.Writing.{turn, sets-before}
 use Rattle.writers.proofs.bytes.copy_on.Statement.{statement}
 use Rattle.writers.proofs.bytes.copy_on.Tie as tie

@@ -6,7 +6,7 @@ use mathlib.Core.Path.{_≡_, sym}
 use lib.ListN.{length, take, length-set}
 use lib.Seq.{sets}
 use Rattle.gfa_spec.specs.Bytes.{part}
-use Rattle.writers.proofs.Parts.{length-part, getD-part}
+use Rattle.gfa_spec.proofs.Parts.{length-part, getD-part}
 use Rattle.writers.proofs.Writing.{turn, turned}
 use Rattle.writers.proofs.bytes.put_bytes.Statement.{statement}
 use Rattle.writers.proofs.bytes.put_bytes.Tie as tie

@@ -1,6 +1,6 @@
 -- `writers::bytes::put_constant` meets its contract: the slice is the whole of itself.
 use borrow.Author.Needs.{needs}
-use Rattle.writers.proofs.Parts.{part-whole}
+use Rattle.gfa_spec.proofs.Parts.{part-whole}
 use Rattle.writers.proofs.Writing.{being}
 use Rattle.writers.proofs.bytes.put_constant.Statement.{statement}
 use Rattle.writers.proofs.bytes.put_constant.Tie as tie

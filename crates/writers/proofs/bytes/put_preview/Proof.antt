@@ -3,7 +3,7 @@ use native.Mathlib.Omega.{arith}
 use mathlib.Core.List.{_++_}
 use mathlib.Core.Path.{sym, ap, _∙_}
 use borrow.Author.Needs.{needs}
-use Rattle.writers.proofs.Parts.{length-part, part-front}
+use Rattle.gfa_spec.proofs.Parts.{length-part, part-front}
 use Rattle.writers.proofs.SequenceLaws.{preview-short, preview-long}
 use Rattle.writers.proofs.Writing.{being, _▷_}
 use Rattle.writers.proofs.bytes.put_preview.Statement.{statement}

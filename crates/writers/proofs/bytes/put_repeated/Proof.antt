@@ -5,7 +5,7 @@ use native.Mathlib.Omega.{arith}
 use mathlib.Core.Path.{sym, ap, _∙_}
 use lib.Seq.{sets}
 use borrow.Author.Needs.{needs}
-use Rattle.writers.proofs.Parts.{length-part, part-front}
+use Rattle.gfa_spec.proofs.Parts.{length-part, part-front}
 use Rattle.writers.proofs.Repeating.{length-repeated, Filling, fill-start, fill-inside, fill-ahead, fill-more, fill-end}
 use Rattle.writers.proofs.Writing.{keeps, stored}
 use Rattle.writers.proofs.bytes.put_repeated.Statement.{statement}

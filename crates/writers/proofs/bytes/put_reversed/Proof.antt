@@ -7,7 +7,7 @@ use lib.ListN.{length, take, length-set}
 use lib.Seq.{sets}
 use Rattle.gfa_spec.specs.Bytes.{part}
 use Rattle.gfa_spec.specs.Sequences.{complement, reverseComplement}
-use Rattle.writers.proofs.Parts.{length-part}
+use Rattle.gfa_spec.proofs.Parts.{length-part}
 use Rattle.writers.proofs.Writing.{turn, turned}
 use Rattle.writers.proofs.SequenceLaws.{length-reversed, getD-reversed}
 use Rattle.writers.proofs.bytes.put_reversed.Statement.{statement}

@@ -1,4 +1,4 @@
--- `writers::sequences::complement` meets its contract: each arm by its keys.
+-- `writers::complement::complement` meets its contract: each arm by its keys.
 use mathlib.Core.Path.{_≡_, refl}
 use mathlib.Core.Logic.{_⊎_, inl, inr, ⊎-elim}
 use mathlib.Core.Bool.{false, _||_}
@@ -6,8 +6,8 @@ use lib.Dec.{eqb}
 use Prim.Native.Nat.{ℕ}
 use borrow.Author.Tests.{ne-eqb}
 use Rattle.gfa_spec.specs.Sequences.{complement}
-use Rattle.writers.proofs.sequences.complement.Statement.{statement}
-use Rattle.writers.proofs.sequences.complement.Tie as tie
+use Rattle.writers.proofs.complement.complement.Statement.{statement}
+use Rattle.writers.proofs.complement.complement.Tie as tie
 
 -- either of two letters that have one complement
 either : (b x y r : ℕ) → r ≡ complement x → r ≡ complement y → (b ≡ x) ⊎ (b ≡ y) → r ≡ complement b

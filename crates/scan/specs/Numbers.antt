@@ -4,8 +4,8 @@ use mathlib.Core.Bool.{cond}
 use mathlib.Core.List.{List}
 use mathlib.Core.Option.{Option, none, some}
 use Rattle.gfa_spec.specs.Decimal.{isNumeral, valueFrom}
-use Rattle.writers.specs.declared.numbers.Number.{Number}
-use Rattle.writers.specs.declared.numbers.Number.the-variants.{Value, None}
+use Rattle.scan.specs.declared.numbers.Number.{Number}
+use Rattle.scan.specs.declared.numbers.Number.the-variants.{Value, None}
 
 -- the number that a string without a sign reads as
 unfoldable pub numeral : List ℕ → Option ℕ

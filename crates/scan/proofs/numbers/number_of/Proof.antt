@@ -1,14 +1,14 @@
--- `writers::numbers::number_of` meets its contract: by whether there is a first byte, and whether it is +.
+-- `scan::numbers::number_of` meets its contract: by whether there is a first byte, and whether it is +.
 use native.Mathlib.Omega.{arith}
 use mathlib.Core.Path.{_≡_, sym, ap, _∙_}
 use mathlib.Core.Logic.{⊎-elim}
 use Rattle.gfa_spec.specs.Decimal.{numberOf}
-use Rattle.writers.specs.Numbers.{numberAnswer}
-use Rattle.writers.proofs.Parts.{part-head, part-none}
-use Rattle.writers.proofs.Digits.{number-signed, number-plain, number-none}
+use Rattle.scan.specs.Numbers.{numberAnswer}
+use Rattle.gfa_spec.proofs.Parts.{part-head, part-none}
+use Rattle.scan.proofs.Numerals.{number-signed, number-plain, number-none}
 use borrow.Author.Needs.{needs}
-use Rattle.writers.proofs.numbers.number_of.Statement.{statement}
-use Rattle.writers.proofs.numbers.number_of.Tie as tie
+use Rattle.scan.proofs.numbers.number_of.Statement.{statement}
+use Rattle.scan.proofs.numbers.number_of.Tie as tie
 
 shared-slice-read-if2 : tie.Need-shared-slice-read-if2
 shared-slice-read-if2 c = search needs

@@ -1,4 +1,4 @@
--- `writers::numbers::value_of` meets its contract. The invariant: what the whole part reads as is what the rest reads as after v.
+-- `scan::numbers::value_of` meets its contract. The invariant: what the whole part reads as is what the rest reads as after v.
 use borrow.Author.Needs.{needs}
 use native.Mathlib.Omega.{arith}
 use Prim.Native.Nat.{ℕ, _+_, _-_, _≤_}
@@ -9,12 +9,12 @@ use mathlib.Core.Logic.{inl, inr}
 use lib.ListN.{drop, getD, drop-of-length-le}
 use Rattle.gfa_spec.specs.Bytes.{isEmpty, part}
 use Rattle.gfa_spec.specs.Decimal.{isNumeral}
-use Rattle.writers.specs.declared.numbers.Number.the-variants.{None}
-use Rattle.writers.specs.Numbers.{numeral, numberAnswer}
-use Rattle.writers.proofs.Parts.{length-part, part-cons}
-use Rattle.writers.proofs.Digits.{scan, numeral-scan, scan-other, scan-large, scan-digit}
-use Rattle.writers.proofs.numbers.value_of.Statement.{statement}
-use Rattle.writers.proofs.numbers.value_of.Tie as tie
+use Rattle.scan.specs.declared.numbers.Number.the-variants.{None}
+use Rattle.scan.specs.Numbers.{numeral, numberAnswer}
+use Rattle.gfa_spec.proofs.Parts.{length-part, part-drop}
+use Rattle.scan.proofs.Numerals.{scan, numeral-scan, scan-other, scan-large, scan-digit}
+use Rattle.scan.proofs.numbers.value_of.Statement.{statement}
+use Rattle.scan.proofs.numbers.value_of.Tie as tie
 
 abbrev Inv-loop : tie.InvT-loop
 Inv-loop text from n v₀ i₀ v i =
@@ -30,7 +30,7 @@ here : (c : tie.In-loop Inv-loop μ-loop)
 here c =
     let l = c .before in
     let a = l .before .before .before .args in
-    l .loop .inv .2 ∙ ap (λ (r : List ℕ). scan (l .loop .v) r) (part-cons (a .from) (a .n) (l .loop .i) (a .text .now) (omega arith) (omega arith))
+    l .loop .inv .2 ∙ ap (λ (r : List ℕ). scan (l .loop .v) r) (part-drop (a .from) (a .n) (l .loop .i) (a .text .now) (omega arith) (omega arith))
 
 -- a turn that finds nothing
 nothing : (c : tie.In-loop Inv-loop μ-loop)

@@ -1,13 +1,13 @@
--- `writers::sequences::same_constant` meets its contract. The invariant: the strings are equal if what is left of them is.
+-- `scan::names::same_constant` meets its contract. The invariant: the strings are equal if what is left of them is.
 use Prim.Native.Nat.{_-_, _≤_}
 use native.Mathlib.Omega.{arith}
 use mathlib.Core.Path.{_≡_, sym, _∙_}
 use lib.ListN.{length, drop}
 use borrow.Author.Needs.{needs}
-use Rattle.writers.proofs.Comparing.{same-length, same-next, same-other, same-end}
-use Rattle.writers.proofs.Parts.{length-part, getD-part}
-use Rattle.writers.proofs.sequences.same_constant.Statement.{statement}
-use Rattle.writers.proofs.sequences.same_constant.Tie as tie
+use Rattle.gfa_spec.proofs.Parts.{length-part, getD-part}
+use Rattle.gfa_spec.proofs.Comparing.{same-length, same-next, same-other, same-end}
+use Rattle.scan.proofs.names.same_constant.Statement.{statement}
+use Rattle.scan.proofs.names.same_constant.Tie as tie
 use Rattle.gfa_spec.specs.Bytes.{same, part}
 
 abbrev Inv-loop : tie.InvT-loop

@@ -3,17 +3,12 @@ use Prim.Native.Nat.{ℕ, suc, _+_, _≤_, _<_}
 use native.Mathlib.Numerals.{add-one}
 use mathlib.Core.Path.{_≡_, refl, ap}
 use mathlib.Core.List.{List, [], _∷_}
-use mathlib.Core.Bool.{Bool, true, false, _&&_}
+use mathlib.Core.Bool.{Bool, true, false, _&&_, and-false}
 use borrow.Author.Tests.{eq-eqb, ne-eqb}
 use lib.Dec.{eqb}
 use lib.ListN.{length, getD, drop, drop-of-length-le}
 use lib.Seq.{drop-cons}
 use Rattle.gfa_spec.specs.Bytes.{same, star}
-
--- `&&` with a false second part
-pub and-false : (t : Bool) → (t && false) ≡ false
-and-false true = refl
-and-false false = refl
 
 -- strings of different lengths
 pub same-length : (xs ys : List ℕ) → (length xs ≡ length ys → ⊥) → same xs ys ≡ false
