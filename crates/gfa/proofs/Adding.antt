@@ -29,6 +29,7 @@ use Rattle.gfa.specs.Steps.{StepsPut}
 use Rattle.gfa.specs.Paths.{kindOf, columnOf, shortOf, stepsOf}
 use Rattle.gfa.specs.Entries.{wordsOf, entryOf}
 use Rattle.gfa.specs.Lines.{segsOf, linksOf, pathsOf, NewRow, Ready, Entered, AddedIs, LineRead}
+use Rattle.gfa_spec.proofs.Entries.{orientation-accepted}
 use Rattle.scan.proofs.Fields.{field-bytes}
 use Rattle.gfa.proofs.Numbers.{found-known, found-new}
 use Rattle.work.proofs.Rows.{Kept, only-none, only-put, only-then, only-wider, only-kept, kept-within, outside-less}
@@ -201,7 +202,12 @@ module _ {text work work' : List ℕ} {b : Bases} {n : Counts} {start size : ℕ
                   links = refl;
                   paths = refl;
                   steps = omega arith;
-                  row = (refl, link-row-put text work at start size from fromlong leaves to tolong enters h (r .inside) (u .inside) (t .inside));
+                  row = (
+                    refl,
+                    link-row-put text work at start size from fromlong leaves to tolong enters h (r .inside) (u .inside) (t .inside)
+                        (orientation-accepted 8 (part a along text) leaves (checked-value (parseOrientation 8 (part a along text)) o e) .1)
+                        (orientation-accepted 10 (part z zlong text) enters (checked-value (parseOrientation 10 (part z zlong text)) p v) .1),
+                  );
                   visits = λ i l h. absurd (omega arith);
                   spent = spent-link text start size n (r .inside) (omega arith) (s .letter);
                   long = length-sets work at row;

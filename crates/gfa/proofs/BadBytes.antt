@@ -14,10 +14,10 @@ use Rattle.gfa.specs.declared.input.Bad.the-variants as bad
 use Rattle.gfa.specs.declared.input.Input.{Input}
 use Rattle.gfa.specs.declared.input.Input.the-variants as answered
 use Rattle.gfa.specs.declared.tables.Bases.{Bases}
-use Rattle.gfa.specs.declared.reading.Answer.{Answer}
-use Rattle.gfa.specs.declared.reading.Answer.the-variants as answer
+use Rattle.gfa.specs.declared.reading.Outcome.{Outcome}
+use Rattle.gfa.specs.declared.reading.Outcome.the-variants as outcome
 use Rattle.gfa_spec.specs.Calls.{plainly, onLine, atPlace, badByte, ofParsed, ofBytes, input}
-use Rattle.gfa.specs.Lines.{AnswerIs}
+use Rattle.gfa.specs.Lines.{OutcomeIs}
 use Rattle.gfa.specs.Inputs.{BadIs, InputIs, lineRefusal}
 
 -- a byte of 128 or more
@@ -102,8 +102,8 @@ module _ {text before work : List ℕ} where
       unfolding input ofBytes plainly
       input-small h q = rw q (record { says = rw (le-ltb 1048576 (length text) s, (rw e at (b .says)), lt-ltb (length before) (4 * length text + 64) h) })
 
-      module _ (h : 4 * length text + 64 ≤ length before) {t : Bases} {a : Answer} (y : AnswerIs text before work t a) where
-        pub input-read : {n : Counts} → a ≡ answer.Read n → InputIs text before work (answered.Tables t n)
+      module _ (h : 4 * length text + 64 ≤ length before) {t : Bases} {a : Outcome} (y : OutcomeIs text before work t a) where
+        pub input-read : {n : Counts} → a ≡ outcome.Read n → InputIs text before work (answered.Tables t n)
         unfolding input ofBytes ofParsed
         input-read q =
             let z = rw q at (y .says) in
@@ -115,7 +115,7 @@ module _ {text before work : List ℕ} where
                   };
             }
 
-        pub input-refused : {r : Input} {k line : ℕ} → a ≡ answer.Refused k line → r ≡ answered.Refused (lineRefusal a) → InputIs text before work r
+        pub input-refused : {r : Input} {k line : ℕ} → a ≡ outcome.Refused k line → r ≡ answered.Refused (lineRefusal a) → InputIs text before work r
         unfolding input ofBytes ofParsed onLine
         input-refused q p =
             let z = rw q at (y .says) in

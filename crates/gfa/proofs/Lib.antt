@@ -11,4 +11,9 @@ pub mod Adding
 pub mod Tallying
 pub mod Following
 pub mod BadBytes
+pub mod Standing
 pub mod Progress
+pub mod RowCuts
+pub mod RunEnds
+pub mod Totals
+pub mod Spelled

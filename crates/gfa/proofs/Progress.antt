@@ -4,7 +4,6 @@ use native.Mathlib.Decide.{decLt}
 use native.Mathlib.Numerals.{add-one}
 use native.Mathlib.Omega.{arith}
 use mathlib.Core.List.{List, [], _∷_, _++_, append-nil}
-use mathlib.Core.Logic.{inl, inr}
 use mathlib.Core.Path.{_≡_, refl, ap, sym, _∙_}
 use lib.ListN.{length}
 use Rattle.gfa.specs.declared.entry.Record.{Record}
@@ -13,9 +12,9 @@ use Rattle.gfa.specs.declared.tables.Bases.{Bases}
 use Rattle.gfa.specs.declared.tables.Counts.{Counts}
 use Rattle.gfa.specs.declared.tables.Added.{Added}
 use Rattle.gfa.specs.declared.tables.Added.the-variants.{Rows, Refused}
-use Rattle.gfa.specs.declared.reading.Answer.the-variants as answer
+use Rattle.gfa.specs.declared.reading.Outcome.the-variants as outcome
 use Rattle.gfa_spec.specs.Bytes.{one, nil}
-use Rattle.gfa_spec.specs.Reading.{Entry, link, segment, path, choose, lines, parse, parseLines}
+use Rattle.gfa_spec.specs.Reading.{Entry, choose, lines, parse, parseLines}
 use Rattle.gfa_spec.specs.Records.{segments, links, paths, collect}
 use Rattle.scan.specs.Places.{linesAt, partAt, LineIs}
 use Rattle.work.specs.Rows.{rowsAt, EachRow, Only}
@@ -26,57 +25,14 @@ use Rattle.gfa.specs.Steps.{StepRow}
 use Rattle.gfa.specs.Paths.{pathAt, pathsAt, PathRow}
 use Rattle.gfa.specs.Entries.{recordAt, entryOf, entryAt, entriesAt, Fits}
 use Rattle.gfa.specs.Room.{segsIn, linksIn, pathsIn, spareIn, total, basesOf, share}
-use Rattle.gfa.specs.Lines.{rowsOf, Laid, Sound, Roomy, Ready, segsOf, linksOf, pathsOf, NewRow, Entered, LineRead, AnswerIs}
+use Rattle.gfa.specs.Lines.{rowsOf, Laid, Sound, Roomy, Ready, segsOf, linksOf, pathsOf, NewRow, Entered, LineRead, OutcomeIs}
 use Rattle.gfa.proofs.Following.{follow, follow-none, follow-snoc, follow-refused, follow-end, parse-accepted, parse-refused, ids-entry}
 use Rattle.scan.proofs.LineEnds.{no-lines-at, all-lines}
 use Rattle.gfa.proofs.Room.{lines-sum, weight-text, tables-fit}
-use Rattle.work.proofs.Rows.{Kept, only-none, only-then, only-kept, outside-less, rows-snoc, rows-kept, each-more, each-none}
+use Rattle.work.proofs.Rows.{only-none, only-then, outside-less, rows-snoc, each-more, each-none}
 use Rattle.gfa_spec.proofs.Sorts.{append-sorted}
-use Rattle.gfa.proofs.TableRows.{segment-kept, segments-kept, segment-rows-kept, link-kept, links-kept, link-rows-kept, step-row-kept, path-kept, paths-kept, path-row-kept, record-kept}
-
--- ---- the rows that were there
-
--- The rows that the counts say are kept.
-record RowsKept (b : Bases) (n : Counts) (w w' : List ℕ) : Type 0 where
-  pub lines : Kept (b .lines) (b .lines + 3 * n .lines) w w'
-  pub segs : Kept (b .segs) (b .segs + 6 * n .segs) w w'
-  pub links : Kept (b .links) (b .links + 8 * n .links) w w'
-  pub paths : Kept (b .paths) (b .paths + 5 * n .paths) w w'
-  pub steps : Kept (b .steps) (b .steps + 3 * n .steps) w w'
-
--- where only rows behind them changed
-rows-behind : {w w' : List ℕ} (b : Bases) (n m : Counts) →
-    (b .lines + 3 * m .lines ≤ b .segs) × (b .segs + 6 * m .segs ≤ b .links) × (b .links + 8 * m .links ≤ b .paths) × (b .paths + 5 * m .paths ≤ b .steps) →
-    (n .lines ≤ m .lines) × (n .segs ≤ m .segs) × (n .links ≤ m .links) × (n .paths ≤ m .paths) → Only (rowsOf b n m) w w' → RowsKept b n w w'
-rows-behind b n m h l o =
-    record {
-      lines = only-kept (b .lines) (b .lines + 3 * n .lines) o (inl (omega arith), (inl (omega arith), (inl (omega arith), (inl (omega arith), (inl (omega arith), tt)))));
-      segs = only-kept (b .segs) (b .segs + 6 * n .segs) o (inr (omega arith), (inl (omega arith), (inl (omega arith), (inl (omega arith), (inl (omega arith), tt)))));
-      links = only-kept (b .links) (b .links + 8 * n .links) o (inr (omega arith), (inr (omega arith), (inl (omega arith), (inl (omega arith), (inl (omega arith), tt)))));
-      paths = only-kept (b .paths) (b .paths + 5 * n .paths) o (inr (omega arith), (inr (omega arith), (inr (omega arith), (inl (omega arith), (inl (omega arith), tt)))));
-      steps = only-kept (b .steps) (b .steps + 3 * n .steps) o (inr (omega arith), (inr (omega arith), (inr (omega arith), (inr (omega arith), (inl (omega arith), tt)))));
-    }
-
-module _ {w w' : List ℕ} (text : List ℕ) (b : Bases) (n : Counts) (t : RowsKept b n w w') (s : Sound text w b n) where
-  -- what a record says is kept, where its row is
-  entry-kept : (r : Record) → Fits text n r → entryOf text w' b r ≡ entryOf text w b r
-  unfolding entryOf
-  entry-kept (Segment k) h = ap segment (segment-kept (t .segs) text (b .segs + 6 * k .0) (omega arith) (omega arith))
-  entry-kept (Link k) h = ap link (link-kept (t .links) text (b .links + 8 * k .0) (omega arith) (omega arith))
-  entry-kept (Path k) h = ap path (path-kept text (b .steps) (b .paths + 5 * k .0) (n .steps) (t .paths) (omega arith) (omega arith) (t .steps) (s .paths .row (k .0) h))
-  entry-kept (Header l) h = refl
-  entry-kept (Comment l) h = refl
-  entry-kept (Blank l) h = refl
-  entry-kept (Other l) h = refl
-
-  -- and so is the line table
-  entries-kept : entriesAt text w' b (n .lines) ≡ entriesAt text w b (n .lines)
-  unfolding entriesAt entryAt
-  entries-kept =
-      rows-kept (entryAt text b) 3 (b .lines) (n .lines)
-      (λ i h.
-      rw (record-kept (t .lines) text (b .lines + 3 * i) (omega arith) (omega arith))
-      (entry-kept (recordAt w (b .lines + 3 * i)) (s .lines .row i h .fits)))
+use Rattle.gfa.proofs.Standing.{RowsKept, rows-behind, entries-kept}
+use Rattle.gfa.proofs.TableRows.{segments-kept, segment-rows-kept, links-kept, link-rows-kept, step-row-kept, paths-kept, path-row-kept, record-kept}
 
 -- larger counts
 fits-wider : (text : List ℕ) (n m : Counts) (r : Record) → (n .segs ≤ m .segs) × (n .links ≤ m .links) × (n .paths ≤ m .paths) → Fits text n r → Fits text m r
@@ -259,7 +215,7 @@ module _ {text first : List ℕ} {b : Bases} where
         let y = p .roomy in
         omega (arith, y .apart, y .between, y .beyond, y .behind, y .room, p .left-lines, p .left-segs, p .left-links, p .left-paths, p .left-spare, p .long)
 
-    pub progress-end : length text ≤ at → AnswerIs text first work b (answer.Read n)
+    pub progress-end : length text ≤ at → OutcomeIs text first work b (outcome.Read n)
     unfolding parseLines
     progress-end h =
         let e : at ≡ length text = omega (arith, p .high) in
@@ -301,7 +257,7 @@ module _ {text first : List ℕ} {b : Bases} where
           }
 
       module _ {work' : List ℕ} {a : Added} (r : LineRead text work work' b n start size a) where
-        pub progress-refused : {k : ℕ} → a ≡ Refused k → AnswerIs text first work' b (answer.Refused k (n .lines + 1))
+        pub progress-refused : {k : ℕ} → a ≡ Refused k → OutcomeIs text first work' b (outcome.Refused k (n .lines + 1))
         progress-refused {k} e =
             let z = rw e at (r .says) in
             record { says = record { read = p .whole ∙ rw (l .first, parse-refused (suc (n .lines)) _ _ _ k (z .read), follow-refused, add-one) } }

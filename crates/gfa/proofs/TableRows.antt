@@ -64,15 +64,13 @@ module _ {lo hi : ℕ} {w w' : List ℕ} (k : Kept lo hi w w') (text : List ℕ)
 
     pub link-row-kept : at + 8 ≤ hi → LinkRow text w at → LinkRow text w' at
     link-row-kept h r =
-        omega (
-          arith,
-          k .word at l (omega arith),
-          k .word (at + 1) (omega arith) (omega arith),
-          k .word (at + 2) (omega arith) (omega arith),
-          k .word (at + 3) (omega arith) (omega arith),
-          k .word (at + 5) (omega arith) (omega arith),
-          k .word (at + 6) (omega arith) (omega arith),
-        )
+        record {
+          line = omega (arith, r .line, k .word at l (omega arith), k .word (at + 1) (omega arith) (omega arith));
+          from = omega (arith, r .from, k .word (at + 2) (omega arith) (omega arith), k .word (at + 3) (omega arith) (omega arith));
+          leaves = rw (k .word (at + 4) (omega arith) (omega arith)) (r .leaves);
+          to = omega (arith, r .to, k .word (at + 5) (omega arith) (omega arith), k .word (at + 6) (omega arith) (omega arith));
+          enters = rw (k .word (at + 7) (omega arith) (omega arith)) (r .enters);
+        }
 
     pub step-kept : at + 3 ≤ hi → stepAt text w' at ≡ stepAt text w at
     unfolding stepAt
@@ -190,19 +188,17 @@ module _ (text w : List ℕ) (at : ℕ) where
         sets-here row w at 7 (omega arith) h,
       )
 
-  pub link-row-put : (a b c d e f g i : ℕ) → at + 8 ≤ length w → a + b ≤ length text → c + d ≤ length text → f + g ≤ length text →
+  pub link-row-put : (a b c d e f g i : ℕ) → at + 8 ≤ length w → a + b ≤ length text → c + d ≤ length text → f + g ≤ length text → isOrientation e ≡ true → isOrientation i ≡ true →
       LinkRow text (sets w at (a ∷ b ∷ c ∷ d ∷ e ∷ f ∷ g ∷ i ∷ [])) at
-  link-row-put a b c d e f g i h p q r =
+  link-row-put a b c d e f g i h p q r o u =
       let row = a ∷ b ∷ c ∷ d ∷ e ∷ f ∷ g ∷ i ∷ [] in
-      omega (
-        arith,
-        sets-first row w at (omega arith) h,
-        sets-here row w at 1 (omega arith) h,
-        sets-here row w at 2 (omega arith) h,
-        sets-here row w at 3 (omega arith) h,
-        sets-here row w at 5 (omega arith) h,
-        sets-here row w at 6 (omega arith) h,
-      )
+      record {
+        line = omega (arith, p, sets-first row w at (omega arith) h, sets-here row w at 1 (omega arith) h);
+        from = omega (arith, q, sets-here row w at 2 (omega arith) h, sets-here row w at 3 (omega arith) h);
+        leaves = rw (sets-here row w at 4 (omega arith) h) o;
+        to = omega (arith, r, sets-here row w at 5 (omega arith) h, sets-here row w at 6 (omega arith) h);
+        enters = rw (sets-here row w at 7 (omega arith) h) u;
+      }
 
   pub step-put : (a b c : ℕ) → at + 3 ≤ length w → stepAt text (sets w at (a ∷ b ∷ c ∷ [])) at ≡ record { name = partAt text a b; orientation = c }
   unfolding stepAt

@@ -46,6 +46,30 @@ walk-none : (text : List ℕ) (to : ℕ) → walk to (slice to to text) ≡ reco
 unfolding walk
 walk-none text to = rw slice-empty
 
+-- What a search for a mark finds, by ranges of the text.
+record Marked (text : List ℕ) (from to r : ℕ) : Type 0 where
+  pub before : walk from (slice from to text) .before ≡ slice from r text
+  pub steps : walk from (slice from to text) .steps ≡ walk r (slice r to text) .steps
+
+mark-is : {text : List ℕ} {from to r : ℕ} → Marked text from to r → (r < to → isMark (getD text r 0) ≡ true) → from ≤ r → r ≤ to → MarkIs text from to r
+mark-is {text} {from} {to} {r} m k l h =
+    record {
+      before = rw (part-range from to text (omega arith), part-range from r text l) (m .before);
+      steps = rw (part-range from to text (omega arith), part-range r to text h) (m .steps);
+      mark = k;
+      low = l;
+      high = h;
+    }
+
+mark-at : {text : List ℕ} {from to r : ℕ} → MarkIs text from to r → Marked text from to r
+mark-at {text} {from} {to} {r} m =
+    let l = m .low in
+    let h = m .high in
+    record {
+      before = rw (part-range from to text (omega arith), part-range from r text l) at (m .before);
+      steps = rw (part-range from to text (omega arith), part-range r to text h) at (m .steps);
+    }
+
 -- The search for a mark at i: the bytes from the range's start up to i are no marks.
 pub record Marking (text : List ℕ) (from to i : ℕ) : Type 0 where
   pub low : from ≤ i
@@ -61,13 +85,7 @@ module _ {text : List ℕ} {from to : ℕ} where
   module _ {i : ℕ} (s : Marking text from to i) where
     pub marking-hit : {r : Bool} → i < to → r ≡ isMark (getD text i 0) → r ≡ true → MarkIs text from to i
     marking-hit h e t =
-        record {
-          before = s .before ∙ rw (walk-mark text i to h (s .inside) (sym e ∙ t), append-nil);
-          steps = s .steps;
-          mark = λ _. sym e ∙ t;
-          low = s .low;
-          high = s .high;
-        }
+        mark-is (record { before = s .before ∙ rw (walk-mark text i to h (s .inside) (sym e ∙ t), append-nil); steps = s .steps }) (λ _. sym e ∙ t) (s .low) (s .high)
 
     pub marking-more : {r : Bool} → i < to → r ≡ isMark (getD text i 0) → r ≡ false → Marking text from to (i + 1)
     marking-more h e t =
@@ -84,13 +102,7 @@ module _ {text : List ℕ} {from to : ℕ} where
     pub marking-end : to ≤ i → MarkIs text from to i
     marking-end h =
         let e : i ≡ to = omega arith in
-        record {
-          before = s .before ∙ rw (e, walk-none, append-nil);
-          steps = s .steps;
-          mark = λ l. absurd (omega arith);
-          low = s .low;
-          high = s .high;
-        }
+        mark-is (record { before = s .before ∙ rw (e, walk-none, append-nil); steps = s .steps }) (λ l. absurd (omega arith)) (s .low) (s .high)
 
 -- the steps that are left: none are left where all are read
 pub rest : List Step → Read (List Step)
@@ -138,7 +150,7 @@ pub record Walking (text first work : List ℕ) (base start size at n : ℕ) : T
 pub walking-none : {text : List ℕ} {start at : ℕ} (size : ℕ) → MarkIs text start (start + size) at → at ≡ start + size →
     nonEmpty (walk start (part start size text) .steps) ≡ refused 16
 unfolding nonEmpty
-walking-none {text} {start} size m e = rw (part-slice start size text, m .steps, e, walk-none)
+walking-none {text} {start} size m e = rw (part-slice start size text, mark-at m .steps, e, walk-none)
 
 module _ {text first : List ℕ} {base start size : ℕ} (h : (start + size ≤ length text) × (length text ≤ 1048576) × (base + 3 * size + 3 ≤ length first)) where
   pub walking-start : {at : ℕ} → MarkIs text start (start + size) at → (at ≡ start + size → ⊥) → Walking text first first base start size at 0
@@ -155,7 +167,7 @@ module _ {text first : List ℕ} {base start size : ℕ} (h : (start + size ≤ 
         mark = m .mark;
         long = refl;
         rows = each-none;
-        whole = rw (part-slice start size text, m .steps, walk-mark text at (start + size) l (h .0) (m .mark l)) (sym (add-none _));
+        whole = rw (part-slice start size text, mark-at m .steps, walk-mark text at (start + size) l (h .0) (m .mark l)) (sym (add-none _));
         only = only-none;
       }
 
@@ -180,7 +192,7 @@ module _ {text first work : List ℕ} {base start size at n : ℕ} (s : Walking 
     walk-step : walk at (slice at (start + size) text) .steps ≡ step ∷ (walk next (slice next (start + size) text) .steps)
     unfolding step
     walk-step =
-        let k = rw add-one at m in
+        let k = rw add-one at (mark-at m) in
         rw (walk-mark text at (start + size) l (s .inside) (s .mark l), k .before, k .steps)
 
     no-name : next ≡ at + 1 → isEmpty (step .name .bytes) ≡ true

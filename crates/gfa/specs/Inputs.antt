@@ -8,11 +8,11 @@ use Rattle.gfa.specs.declared.tables.Bases.{Bases}
 use Rattle.gfa.specs.declared.tables.Counts.{Counts}
 use Rattle.gfa.specs.declared.input.Bad.{Bad}
 use Rattle.gfa.specs.declared.input.Bad.the-variants as bad
-use Rattle.gfa.specs.declared.input.Refusal.{Refusal}
+use Rattle.gfa.specs.declared.input.Answer.{Answer}
 use Rattle.gfa.specs.declared.input.Input.{Input}
 use Rattle.gfa.specs.declared.input.Input.the-variants as answered
-use Rattle.gfa.specs.declared.reading.Answer.{Answer}
-use Rattle.gfa.specs.declared.reading.Answer.the-variants as answer
+use Rattle.gfa.specs.declared.reading.Outcome.{Outcome}
+use Rattle.gfa.specs.declared.reading.Outcome.the-variants as outcome
 use Rattle.gfa_spec.specs.Calls as calls
 use Rattle.gfa_spec.specs.Calls.{atPlace, badByte, input}
 use Rattle.gfa.specs.Entries.{entriesAt}
@@ -28,13 +28,13 @@ pub record BadIs (text : List ℕ) (r : Bad) : Type 0 where
   pub says : BadSays text r
 
 -- the definition's refusal that an answer states, with all of its fields
-abbrev pub stated : Refusal → calls.Refusal
+abbrev pub stated : Answer → calls.Refusal
 stated r = record { number = r .number; line = r .line; from = r .from; length = r .length }
 
 -- the refusal of a line, all 0 where there is none
-abbrev pub lineRefusal : Answer → Refusal
-lineRefusal (answer.Read n) = record { number = 0; line = 0; from = 0; length = 0 }
-lineRefusal (answer.Refused k line) = record { number = k; line = line; from = 0; length = 0 }
+abbrev pub lineRefusal : Outcome → Answer
+lineRefusal (outcome.Read n) = record { number = 0; line = 0; from = 0; length = 0 }
+lineRefusal (outcome.Refused k line) = record { number = k; line = line; from = 0; length = 0 }
 
 -- The call is accepted, and the text's entries are those of the tables.
 pub record InputRead (text before work : List ℕ) (b : Bases) (n : Counts) : Type 0 where

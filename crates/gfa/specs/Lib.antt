@@ -9,3 +9,5 @@ pub mod Entries
 pub mod Room
 pub mod Lines
 pub mod Inputs
+pub mod Passes
+pub mod Spelled

@@ -8,8 +8,8 @@ use Rattle.gfa.specs.declared.tables.Bases.{Bases}
 use Rattle.gfa.specs.declared.tables.Counts.{Counts}
 use Rattle.gfa.specs.declared.tables.Added.{Added}
 use Rattle.gfa.specs.declared.tables.Added.the-variants.{Rows, Refused}
-use Rattle.gfa.specs.declared.reading.Answer.{Answer}
-use Rattle.gfa.specs.declared.reading.Answer.the-variants as answer
+use Rattle.gfa.specs.declared.reading.Outcome.{Outcome}
+use Rattle.gfa.specs.declared.reading.Outcome.the-variants as outcome
 use Rattle.gfa_spec.specs.Bytes.{part}
 use Rattle.gfa_spec.specs.Reading.{refused, accepted, lines, parseLine, refusedAt, parsed, parse}
 use Rattle.gfa_spec.specs.Records.{segments, links, paths}
@@ -161,10 +161,10 @@ pub record TextRefused (text : List ℕ) (k line : ℕ) : Type 0 where
   pub read : parse text ≡ refusedAt k line
 
 -- by the cases of the answer
-abbrev pub AnswerSays : List ℕ → List ℕ → List ℕ → Bases → Answer → Type 0
-AnswerSays text before work b (answer.Read n) = TextRead text before work b n
-AnswerSays text before work b (answer.Refused k line) = TextRefused text k line
+abbrev pub OutcomeSays : List ℕ → List ℕ → List ℕ → Bases → Outcome → Type 0
+OutcomeSays text before work b (outcome.Read n) = TextRead text before work b n
+OutcomeSays text before work b (outcome.Refused k line) = TextRefused text k line
 
 -- What the answer to all lines says.
-pub record AnswerIs (text before work : List ℕ) (b : Bases) (r : Answer) : Type 0 where
-  pub says : AnswerSays text before work b r
+pub record OutcomeIs (text before work : List ℕ) (b : Bases) (r : Outcome) : Type 0 where
+  pub says : OutcomeSays text before work b r

@@ -4,10 +4,9 @@ use mathlib.Core.Bool.{true, cond}
 use mathlib.Core.List.{List, [], _∷_, _++_}
 use mathlib.Core.Path.{_≡_}
 use lib.ListN.{length, getD}
-use lib.Seq.{slice}
 use Rattle.gfa.specs.declared.tables.Checked.{Checked}
 use Rattle.gfa.specs.declared.tables.Checked.the-variants.{Value, Refused}
-use Rattle.gfa_spec.specs.Bytes.{Part, isEmpty}
+use Rattle.gfa_spec.specs.Bytes.{Part, part, isEmpty}
 use Rattle.gfa_spec.specs.Reading.{Step, Read, refused, accepted, then, isOrientation, stepOf, parseItems, isMark, walk}
 use Rattle.scan.specs.Places.{partAt}
 use Rattle.work.specs.Rows.{rowsAt, EachRow, span, Only}
@@ -84,8 +83,8 @@ pub record ItemIs (text work work' : List ℕ) (base n from to : ℕ) (r : Check
 
 -- The first mark from `from` up to `to`, or `to`: the walk from `from` on goes on there.
 pub record MarkIs (text : List ℕ) (from to r : ℕ) : Type 0 where
-  pub before : walk from (slice from to text) .before ≡ slice from r text
-  pub steps : walk from (slice from to text) .steps ≡ walk r (slice r to text) .steps
+  pub before : walk from (part from (to - from) text) .before ≡ part from (r - from) text
+  pub steps : walk from (part from (to - from) text) .steps ≡ walk r (part r (to - r) text) .steps
   pub mark : r < to → isMark (getD text r 0) ≡ true
   pub low : from ≤ r
   pub high : r ≤ to

@@ -37,9 +37,10 @@ pub struct LineEntry {
     pub holds: Record,
 }
 
-// The three words of a record.
+// Three words.
 pub struct Words(pub usize, pub usize, pub usize);
 
+// The words of a record: its sort, and its number, or its start and its length.
 pub fn words_of(r: Record) -> Words
     ensures { λ w. ⌜ ((w .0) ∷ (w .1) ∷ (w .2) ∷ [] ≡ wordsOf r) × Small (wordsOf r) ⌝ }
 {

@@ -6,13 +6,13 @@ ghost use Rattle.gfa_spec.specs.Reading.{lines};
 ghost use Rattle.gfa.specs.Room.{basesOf};
 ghost use Rattle.gfa.specs.Inputs.{BadIs, InputIs, lineRefusal};
 use crate::counting::count_text;
-use crate::reading::Answer;
+use crate::reading::Outcome;
 use crate::reading::read_lines;
 use crate::tables::Bases;
 use crate::tables::Counts;
 
-// A refusal: its number, and the line, offset and length that document 01 names for it; else 0.
-pub struct Refusal {
+// What every call answers: number 0 is acceptance, its length the bytes written; a field not named is 0 (document 01, "Refused calls").
+pub struct Answer {
     pub number: usize,
     pub line: usize,
     pub from: usize,
@@ -28,7 +28,7 @@ pub enum Bad {
 // What became of a text: where its tables are and how many rows they have, or a refusal.
 pub enum Input {
     Tables(Bases, Counts),
-    Refused(Refusal),
+    Refused(Answer),
 }
 
 // The first byte of 128 or more (2), or carriage return not followed at once by a line feed (3).
@@ -78,7 +78,7 @@ pub fn bases_of(text: &[u8]) -> Bases
 fn refused(number: usize, line: usize, from: usize) -> Input
     ensures { λ r. ⌜ r ≡ Input.Refused (record { number = number; line = line; from = from; length = 0 }) ⌝ }
 {
-    Input::Refused(Refusal {
+    Input::Refused(Answer {
         number,
         line,
         from,
@@ -87,12 +87,12 @@ fn refused(number: usize, line: usize, from: usize) -> Input
 }
 
 // The refusal of a line.
-fn refused_line(a: Answer) -> Input
+fn refused_line(a: Outcome) -> Input
     ensures { λ r. ⌜ r ≡ Input.Refused (lineRefusal a) ⌝ }
 {
     match a {
-        Answer::Read(_) => refused(0, 0, 0),
-        Answer::Refused(k, line) => refused(k, line, 0),
+        Outcome::Read(_) => refused(0, 0, 0),
+        Outcome::Refused(k, line) => refused(k, line, 0),
     }
 }
 
@@ -112,7 +112,7 @@ pub fn parse_gfa(text: &[u8], work: &mut [u32]) -> Input
     }
     let b = bases_of(text);
     let answer = read_lines(text, work, b);
-    let Answer::Read(n) = answer else {
+    let Outcome::Read(n) = answer else {
         return refused_line(answer);
     };
     Input::Tables(b, n)

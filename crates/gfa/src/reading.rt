@@ -1,5 +1,5 @@
 // The reading pass: every line of a text, put into the tables.
-ghost use Rattle.gfa.specs.Lines.{Roomy, Ready, AddedIs, LineRead, AnswerIs};
+ghost use Rattle.gfa.specs.Lines.{Roomy, Ready, AddedIs, LineRead, OutcomeIs};
 use crate::entry::LineEntry;
 use crate::entry::RawLine;
 use crate::entry::Record;
@@ -17,7 +17,7 @@ use crate::tables::refusal_of;
 use scan::places::next_line;
 
 // What became of a text: the rows of its tables, or a refusal's number and line.
-pub enum Answer {
+pub enum Outcome {
     Read(Counts),
     Refused(usize, usize),
 }
@@ -72,9 +72,9 @@ pub fn read_line(
 }
 
 // Reads every line of a text into the tables at `b`.
-pub fn read_lines(text: &[u8], work: &mut [u32], b: Bases) -> Answer
+pub fn read_lines(text: &[u8], work: &mut [u32], b: Bases) -> Outcome
     requires { ⌜ Roomy (now text) (now work) b ⌝ }
-    ensures { λ r. ⌜ AnswerIs (now (text .entry)) (now (work .entry)) (now (work .exit)) b r ⌝ }
+    ensures { λ r. ⌜ OutcomeIs (now (text .entry)) (now (work .entry)) (now (work .exit)) b r ⌝ }
 {
     let mut at = 0;
     let mut n = Counts {
@@ -88,10 +88,10 @@ pub fn read_lines(text: &[u8], work: &mut [u32], b: Bases) -> Answer
         let line = next_line(text, at);
         let added = read_line(text, work, b, n, line.start, line.length);
         let Added::Rows(_, m) = added else {
-            return Answer::Refused(refusal_of(added), n.lines + 1);
+            return Outcome::Refused(refusal_of(added), n.lines + 1);
         };
         n = m;
         at = line.next;
     }
-    Answer::Read(n)
+    Outcome::Read(n)
 }

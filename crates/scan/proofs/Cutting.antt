@@ -52,7 +52,7 @@ module _ {text : List ℕ} {b from to r : ℕ} (h : FirstIs text b from to r) wh
   -- the first part of a range, and what is behind it
   pub split-range : split b from (slice from to text) ≡ record { at = from; bytes = slice from r text } ∷ behind b r (slice r to text)
   split-range =
-      let e = h .place in
+      let e : r ≡ from + before b (slice from to text) = rw (part-range from to text (omega arith)) at (h .place) in
       let n = before b (slice from to text) in
       let k : from + n ≤ to = omega arith in
       split-first b from (slice from to text) ∙ rw (e, ← drop-drop n from (take to text)) (rw (take-slice n from to text k))

@@ -3,11 +3,12 @@ use Prim.Native.Nat.{ℕ, suc, _+_, _≤_, _<_}
 use native.Mathlib.Omega.{arith}
 use native.Mathlib.Numerals.{add-one}
 use mathlib.Core.List.{List}
-use mathlib.Core.Path.{_≡_}
+use mathlib.Core.Path.{_≡_, ap}
 use lib.ListN.{length, getD}
 use lib.Seq.{slice, slice-cons, slice-empty}
 use borrow.Author.Tests.{eq-eqb, ne-eqb}
 use Rattle.scan.specs.Places.{before, FirstIs}
+use Rattle.scan.proofs.Cutting.{part-range}
 
 -- The state at i: no b stands before i, so that the first is as far from i as it is from the range's start.
 pub record Finding (text : List ℕ) (b from to i : ℕ) : Type 0 where
@@ -37,7 +38,9 @@ module _ {text : List ℕ} {b from to : ℕ} where
   finding-start h = omega arith
 
   pub finding-hit : {i : ℕ} → Finding text b from to i → i < to → getD text i 0 ≡ b → FirstIs text b from to i
-  finding-hit {i} s h e = let z = before-hit b i to text h (s .inside) e in omega arith
+  finding-hit {i} s h e =
+      let z = before-hit b i to text h (s .inside) e in
+      omega (arith, ap (before b) (part-range from to text (omega arith)))
 
   pub finding-more : {i : ℕ} → Finding text b from to i → i < to → (getD text i 0 ≡ b → ⊥) → Finding text b from to (i + 1)
   finding-more {i} s h e = let z = before-miss b i to text h (s .inside) e in rw add-one (omega arith)
@@ -46,4 +49,4 @@ module _ {text : List ℕ} {b from to : ℕ} where
   finding-end {i} s h =
       let e : i ≡ to = omega arith in
       let z : before b (slice i to text) ≡ 0 = rw e (before-none b to text) in
-      omega arith
+      omega (arith, ap (before b) (part-range from to text (omega arith)))

@@ -11,7 +11,7 @@ use borrow.Author.Tests.{ne-eqb}
 use Rattle.gfa_spec.specs.Bytes.{Part, part, split, isEmpty}
 use Rattle.gfa_spec.specs.Reading.{dropReturn, dropFinal, lineOf, lines}
 use Rattle.scan.specs.Places.{FirstIs, TrimmedIs, LineIs, linesAt, partAt}
-use Rattle.scan.proofs.Cutting.{part-slice, split-first, split-more, split-last}
+use Rattle.scan.proofs.Cutting.{part-slice, part-range, split-first, split-more, split-last}
 
 -- a range that ends one byte later
 pub slice-snoc : (f t : ℕ) (l : List ℕ) → f ≤ t → t < length l → slice f (suc t) l ≡ slice f t l ++ (getD l t 0 ∷ [])
@@ -41,17 +41,16 @@ last-byte text start end n h =
 module _ {text : List ℕ} {start end : ℕ} (h : (start ≤ end) × (end ≤ length text)) where
   pub trimmed-empty : start ≡ end → TrimmedIs text start end 0
   unfolding dropReturn part
-  trimmed-empty e = record { rest = rw (← e, slice-empty); high = omega arith }
+  trimmed-empty e = record { rest = rw (part-range start end text (h .0), ← e, slice-empty); high = omega arith }
 
   pub trimmed-hit : (start ≡ end → ⊥) → getD text (end - 1) 0 ≡ 13 → TrimmedIs text start end (end - 1 - start)
   trimmed-hit n e =
       let l : start + (end - 1 - start) ≡ end - 1 = omega arith in
-      record { rest = rw (part-slice, l, last-byte text start end (omega arith) (h .1), e, dropReturn-hit); high = omega arith }
+      record { rest = rw (part-range start end text (h .0), part-slice, l, last-byte text start end (omega arith) (h .1), e, dropReturn-hit); high = omega arith }
 
   pub trimmed-miss : (start ≡ end → ⊥) → (getD text (end - 1) 0 ≡ 13 → ⊥) → TrimmedIs text start end (end - start)
   trimmed-miss n e =
-      let l : start + (end - start) ≡ end = omega arith in
-      record { rest = rw (part-slice, l, last-byte text start end (omega arith) (h .1), dropReturn-miss _ _ e); high = omega arith }
+      record { rest = rw (part-range start end text (h .0), last-byte text start end (omega arith) (h .1), dropReturn-miss _ _ e); high = omega arith }
 
 pub nonEmpty : (s : List ℕ) → 0 < length s → isEmpty s ≡ false
 unfolding isEmpty
@@ -90,8 +89,9 @@ module _ {text : List ℕ} {at end size : ℕ} (h : at < length text) (f : First
   pub line-more : end < length text → LineIs text at at size (end + 1)
   unfolding linesAt lineOf partAt
   line-more k =
+      let rest = rw (part-range at end text (f .low)) at (t .rest) in
       record {
-        first = rw (add-one, drop-slice text at, drop-slice text (suc end), split-more f k (omega arith), dropFinal-more, t .rest);
+        first = rw (add-one, drop-slice text at, drop-slice text (suc end), split-more f k (omega arith), dropFinal-more, rest);
         within = omega arith;
         on = omega arith;
         inside = omega arith;
@@ -101,10 +101,11 @@ module _ {text : List ℕ} {at end size : ℕ} (h : at < length text) (f : First
   pub line-last : length text ≤ end → LineIs text at at size end
   unfolding linesAt lineOf partAt
   line-last k =
+      let rest = rw (part-range at end text (f .low)) at (t .rest) in
       let e : end ≡ length text = omega arith in
       let n : 0 < length (slice at end text) = omega (arith, length-slice at end text (f .high)) in
       record {
-        first = rw (drop-slice text at, split-last f k, dropFinal-one (record { at = at; bytes = slice at end text }) n, t .rest, no-lines-at text end e);
+        first = rw (drop-slice text at, split-last f k, dropFinal-one (record { at = at; bytes = slice at end text }) n, rest, no-lines-at text end e);
         within = omega arith;
         on = omega arith;
         inside = omega arith;

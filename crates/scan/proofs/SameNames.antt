@@ -12,8 +12,8 @@ use lib.Seq.{slice, slice-cons, slice-empty}
 use borrow.Author.Tests.{eq-eqb, ne-eqb}
 use Rattle.gfa_spec.specs.Bytes.{part, same, star}
 use Rattle.scan.specs.Places.{SameIs, StarIs}
-use Rattle.gfa_spec.proofs.Parts.{part-cons, length-part}
 use Rattle.gfa_spec.proofs.Comparing.{same-length, same-star}
+use Rattle.gfa_spec.proofs.Parts.{part-cons, length-part}
 use Rattle.scan.proofs.Cutting.{part-slice}
 
 -- the names as ranges

@@ -1,11 +1,10 @@
 -- Places in a text: what the reader's starts and lengths stand for. Document 01, "Forms that change": strings become offsets into the text.
-use Prim.Native.Nat.{ℕ, suc, _+_, _≤_, _<_}
+use Prim.Native.Nat.{ℕ, suc, _+_, _-_, _≤_, _<_}
 use mathlib.Core.Bool.{Bool, cond}
 use mathlib.Core.List.{List, [], _∷_, map}
 use mathlib.Core.Path.{_≡_}
 use lib.Dec.{eqb}
 use lib.ListN.{length, drop}
-use lib.Seq.{slice}
 use Rattle.scan.specs.declared.places.Field.{Field}
 use Rattle.scan.specs.declared.places.Field.the-variants.{Found, Missing}
 use Rattle.gfa_spec.specs.Bytes.{Part, part, same, star, split, nth}
@@ -22,13 +21,13 @@ before b (x ∷ xs) = cond (eqb x b) 0 (suc (before b xs))
 
 -- The first place of b from `from` up to `to`, or `to`.
 pub record FirstIs (text : List ℕ) (b from to r : ℕ) : Type 0 where
-  pub place : r ≡ from + before b (slice from to text)
+  pub place : r ≡ from + before b (part from (to - from) text)
   pub low : from ≤ r
   pub high : r ≤ to
 
 -- The length of what stands from `start` up to `end`, without a carriage return at its end.
 pub record TrimmedIs (text : List ℕ) (start end r : ℕ) : Type 0 where
-  pub rest : part start r text ≡ dropReturn (slice start end text)
+  pub rest : part start r text ≡ dropReturn (part start (end - start) text)
   pub high : start + r ≤ end
 
 -- the lines of the text from `at` on

@@ -1,4 +1,4 @@
--- `gfa::entries::entry_at` meets its contract, by the sort that the first word says. Assumes nothing.
+-- `gfa::entry::entry_at` meets its contract, by the sort that the first word says. Assumes nothing.
 use native.Mathlib.Omega.{arith}
 use borrow.Author.Tests.{ne-eqb}
 use Rattle.gfa.specs.Entries.{recordOf, recordAt}

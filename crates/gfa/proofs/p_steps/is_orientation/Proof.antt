@@ -1,4 +1,4 @@
--- `gfa::steps::is_orientation` meets its contract. Assumes nothing.
+-- `gfa::p_steps::is_orientation` meets its contract. Assumes nothing.
 use borrow.Author.Tests.{eq-eqb, ne-eqb}
 use Rattle.gfa_spec.specs.Reading.{isOrientation}
 use Rattle.gfa.proofs.p_steps.is_orientation.Statement.{statement}

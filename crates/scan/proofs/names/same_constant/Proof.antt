@@ -4,8 +4,8 @@ use native.Mathlib.Omega.{arith}
 use mathlib.Core.Path.{_≡_, sym, _∙_}
 use lib.ListN.{length, drop}
 use borrow.Author.Needs.{needs}
-use Rattle.gfa_spec.proofs.Parts.{length-part, getD-part}
 use Rattle.gfa_spec.proofs.Comparing.{same-length, same-next, same-other, same-end}
+use Rattle.gfa_spec.proofs.Parts.{length-part, getD-part}
 use Rattle.scan.proofs.names.same_constant.Statement.{statement}
 use Rattle.scan.proofs.names.same_constant.Tie as tie
 use Rattle.gfa_spec.specs.Bytes.{same, part}

@@ -1,4 +1,4 @@
--- `work::work::clear` meets its contract. The invariant: the first i words are 0.
+-- `work::work::clear` meets its contract. The invariant: the first i words are 0. Assumes nothing.
 use borrow.Author.Needs.{needs}
 use borrow.Author.Fill.{fill-more}
 use native.Mathlib.Omega.{arith}
