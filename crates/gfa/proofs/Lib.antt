@@ -17,3 +17,4 @@ pub mod RowCuts
 pub mod RunEnds
 pub mod Totals
 pub mod Spelled
+pub mod Serving

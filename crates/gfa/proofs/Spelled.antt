@@ -220,6 +220,14 @@ module _ {limit at : ℕ} {before : List ℕ} {ss : List Segment} {all : List St
   unfolding behind spell
   so-far-all e sofar = record { says = record { bytes = sofar .piece; spells = sofar .spells ∙ rw (e, append-nil); wrote = sofar .wrote } }
 
+-- Where steps are known to spell bytes, the speller wrote them, whatever it answered.
+pub spelt-wrote : {text : List ℕ} {limit : ℕ} {before : List ℕ} {at : ℕ} {after : List ℕ} {s : Spelt} (r : code.Spelt) (bs : List ℕ)
+    → SpeltIs text limit before at after s r → s ≡ spelt bs → (next : ℕ) × Wrote limit before at bs after next
+spelt-wrote (Bytes next) bs h e =
+    let same-bytes : h .says .bytes ≡ bs = cc (h .says .spells, e) in
+    (next, rw same-bytes at (h .says .wrote))
+spelt-wrote (Bad k from long) bs h e = let z : _≡_ {A = ℕ} 0 1 = cc (h .says .spells, e) in absurd (omega arith)
+
 -- ---- the first bad step of all paths
 
 -- the refusal of a bad step is that of its name

@@ -11,3 +11,4 @@ pub mod Lines
 pub mod Inputs
 pub mod Passes
 pub mod Spelled
+pub mod Served

@@ -9,6 +9,7 @@ pub mod paths;
 pub mod reading;
 pub mod runs;
 pub mod segments;
+pub mod services;
 pub mod sort;
 pub mod spelling;
 pub mod tables;

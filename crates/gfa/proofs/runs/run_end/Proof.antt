@@ -1,5 +1,5 @@
 -- `gfa::runs::run_end` meets its contract. The loop's invariant: the steps passed are equal to step i. Assumes nothing.
-use Prim.Native.Nat.{_-_, _+_, _*_}
+use Prim.Native.Nat.{_-_}
 use native.Mathlib.Omega.{arith}
 use borrow.Author.Tests.{not-true, not-false}
 use Rattle.gfa.proofs.RunEnds.{Equal, step-there, equal-start, equal-end, equal-differs, equal-more}
