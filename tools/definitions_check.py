@@ -3,7 +3,7 @@
 
 usage:  python3 tools/definitions_check.py [FILE]
 
-FILE is data/rust-answers.txt unless another is named. Every case is computed: every byte of an answer, every counter,
+FILE is crates/replay/stdin unless another is named. Every case is computed: every byte of an answer, every counter,
 every field of a refusal. Status 1, with the label of each case that differs, unless all agree.
 """
 import sys

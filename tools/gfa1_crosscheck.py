@@ -3,7 +3,7 @@
 
 usage:  python3 tools/gfa1_crosscheck.py
 
-Lines come from examples/*.gfa, from the texts of data/rust-answers.txt, and from both mutated with a fixed seed. For each
+Lines come from examples/*.gfa, from the texts of crates/replay/stdin, and from both mutated with a fixed seed. For each
 line the prover computes whether 1.0 and 1.1 allow it, the first column that breaks its expression, whether a segment name
 holds a comma, and the record that it states. Status 1 unless all agree, or where too few lines are allowed or refused.
 """

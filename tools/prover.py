@@ -12,12 +12,12 @@ import tempfile
 from collections import namedtuple
 
 ROOT = os.path.dirname(os.path.dirname(os.path.abspath(__file__)))
-ANSWERS = os.path.join(ROOT, "data", "rust-answers.txt")
+ANSWERS = os.path.join(ROOT, "crates", "replay", "stdin")
 
 Case = namedtuple("Case", "label service arg room work number line start length text output stats")
 
 
-# ---- recorded answers: data/README.md says the format
+# ---- recorded answers: docs/ANSWERS.md says the format
 
 
 def recorded(path=ANSWERS):

@@ -1,4 +1,4 @@
-//! The recorded format: `data/README.md` says it in words.
+//! The recorded format: `docs/ANSWERS.md` says it in words.
 
 use crate::{Case, Service};
 use oracle::Answer;

@@ -23,7 +23,7 @@ usage: cases COMMAND
   text SHAPE BYTES write one large text; SHAPE is segments, links, long-paths, long-runs,
                    clashes, crlf or nothing-to-fold
 
-data/README.md says the format of the cases.
+docs/ANSWERS.md says the format of the cases.
 ";
 
 fn main() -> ExitCode {
