@@ -207,7 +207,8 @@ fn words() {
     io::write_all(1, b"\n");
 }
 
-fn main() {
+// What is written.
+fn writing() {
     preview(b"ACGTACGTACGTACGTACGTACGTACGTACGTACGTACGTACGTACGT");
     preview(b"ACGTACGTACGTACGTACGTACGTACGTACGTACGTACGTACGTACGTA");
     preview(b"");
@@ -225,6 +226,12 @@ fn main() {
     decimal(9);
     decimal(10);
     decimal(18446744073709551615);
+    link(b"1", b"a,b");
+    number_line(b"order", 18446744073709551615);
+}
+
+// Numbers, sequences and names.
+fn reading() {
     number(b"007");
     number(b"+5");
     number(b"+");
@@ -234,8 +241,6 @@ fn main() {
     number(b"18446744073709551616");
     number(b"000000000000000000000000018446744073709551615");
     number(b"12a");
-    link(b"1", b"a,b");
-    number_line(b"order", 18446744073709551615);
     length(b"*");
     length(b"**");
     length(b"");
@@ -245,6 +250,13 @@ fn main() {
     constant(b"H", b"H");
     constant(b"HH", b"H");
     constant(b"", b"");
+    halves(b"abab");
+    halves(b"abac");
+    halves(b"");
+}
+
+// Lines, fields, orientations and the work area.
+fn placing() {
     line(b"S\t1\r\n\nlast", 0);
     line(b"S\t1\r\n\nlast", 5);
     line(b"S\t1\r\n\nlast", 6);
@@ -270,8 +282,11 @@ fn main() {
     orientation(b"-");
     orientation(b"*");
     orientation(b"+-");
-    halves(b"abab");
-    halves(b"abac");
-    halves(b"");
     words();
+}
+
+fn main() {
+    writing();
+    reading();
+    placing();
 }
