@@ -19,5 +19,7 @@ pub mod Counters
 pub mod Demand
 pub mod Service
 pub mod ServiceRefusals
+pub mod Marks
+pub mod Onward
 pub mod Computing
 pub mod Examples
