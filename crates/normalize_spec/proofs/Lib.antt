@@ -21,5 +21,6 @@ pub mod Service
 pub mod ServiceRefusals
 pub mod Marks
 pub mod Onward
+pub mod NewNames
 pub mod Computing
 pub mod Examples
