@@ -13,7 +13,6 @@ pub mod Following
 pub mod BadBytes
 pub mod Standing
 pub mod Progress
-pub mod RowCuts
 pub mod RunEnds
 pub mod Totals
 pub mod Spelled

@@ -27,7 +27,7 @@ unfoldable pub weight : List Part → ℕ
 weight ps = sum (map length (map bytesOf ps)) + length ps
 
 -- what is split has one separator less
-weight-split : (b at : ℕ) (s : List ℕ) → weight (split b at s) ≡ suc (length s)
+pub weight-split : (b at : ℕ) (s : List ℕ) → weight (split b at s) ≡ suc (length s)
 unfolding weight
 weight-split b at s = length-split b at s
 

@@ -14,7 +14,7 @@ use Rattle.work.specs.Rows.{rowsAt, EachRow}
 use Rattle.work.proofs.Rows.{rows-snoc, rows-length}
 use Rattle.gfa.specs.Steps.{stepAt, stepsAt, StepRow}
 use Rattle.gfa.specs.Passes.{StepThere, RunIs}
-use Rattle.gfa.proofs.RowCuts.{rows-split, rows-cons, rows-none}
+use Rattle.work.proofs.RowCuts.{rows-split, rows-cons, rows-none}
 
 -- a row of a table is there
 pub step-there : {text work : List ℕ} {base n : ℕ} (i : ℕ) → EachRow (StepRow text) 3 work base n → base + 3 * n ≤ length work → i < n → StepThere text work (base + 3 * i)

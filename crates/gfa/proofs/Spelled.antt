@@ -36,7 +36,7 @@ use Rattle.gfa.specs.Paths.{pathAt, pathsAt}
 use Rattle.gfa.specs.Inputs.{stated}
 use Rattle.gfa.specs.Passes.{StepThere}
 use Rattle.gfa.specs.Spelled.{SequenceIs, SpeltInto, BadAt, SpeltIs, badAnswer, BadStepIs}
-use Rattle.gfa.proofs.RowCuts.{rows-all, rows-cons, rows-none}
+use Rattle.work.proofs.RowCuts.{rows-all, rows-cons, rows-none}
 
 -- ---- the sequence of a name
 

@@ -20,7 +20,7 @@ use Rattle.gfa.specs.Paths.{pathAt, pathsAt}
 use Rattle.gfa.specs.Entries.{entriesAt}
 use Rattle.gfa.specs.Lines.{Tables}
 use Rattle.gfa.specs.Passes.{Readable, StepThere, LinkThere, PairsIs, overRows, PairTotals, StepTotal}
-use Rattle.gfa.proofs.RowCuts.{rows-all, rows-cons, rows-none, each-part}
+use Rattle.work.proofs.RowCuts.{rows-all, rows-cons, rows-none, each-part}
 use Rattle.gfa.proofs.RunEnds.{step-there}
 
 -- ---- the pairs of a step list

@@ -1,7 +1,7 @@
 -- Laws of runs: their counts, and that adjacent runs differ. Assumes nothing.
 use Prim.Native.Nat.{ℕ, suc, _+_, _-_, _≤_, zero-le, suc-le-suc}
 use native.Mathlib.Omega.{arith}
-use mathlib.Core.Bool.{Bool, true, false}
+use mathlib.Core.Bool.{true, false}
 use mathlib.Core.List.{List, [], _∷_, _++_, map}
 use mathlib.Core.Path.{_≡_, refl, sym, ap, _∙_}
 use lib.Dec.{eqb}
@@ -142,12 +142,3 @@ runs-cut s (x ∷ xs) ys h d =
     differs : (ys : List Step) → Differs s ys → Differs x ys
     differs [] d = tt
     differs (t ∷ ys) d = sym (same-as s x t (h .0)) ∙ d
-
--- ---- pairs, one element more
-
--- the pairs of a list with two elements more are those with one more, and that of the two
-pub pairs-snoc : {A : Type 0} (p : A → A → Bool) (xs : List A) (a b : A) → pairs p (xs ++ (a ∷ (b ∷ []))) ≡ pairs p (xs ++ (a ∷ [])) + bit (p a b)
-unfolding pairs
-pairs-snoc p [] a b = omega arith
-pairs-snoc p (x ∷ []) a b = omega arith
-pairs-snoc p (x ∷ (y ∷ xs)) a b = omega (arith, pairs-snoc p (y ∷ xs) a b)

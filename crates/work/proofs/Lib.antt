@@ -1,3 +1,4 @@
 -- Laws of rows and stores.
 pub mod Stores
 pub mod Rows
+pub mod RowCuts

@@ -6,7 +6,7 @@ use lib.ListN.{length}
 use borrow.Author.Needs.{needs}
 use Rattle.gfa.specs.Segments.{segmentsAt}
 use Rattle.gfa.specs.Steps.{stepAt, stepsAt}
-use Rattle.gfa.proofs.RowCuts.{rows-all, rows-cons, rows-none}
+use Rattle.work.proofs.RowCuts.{rows-all, rows-cons, rows-none}
 use Rattle.gfa.proofs.RunEnds.{step-there}
 use Rattle.gfa.proofs.Spelled.{SoFar, so-far-none, so-far-more, so-far-bad, so-far-all}
 use Rattle.gfa.proofs.Totals.{steps-there}

@@ -1,0 +1,7 @@
+-- What the contracts of the report say.
+pub mod Sorting
+pub mod Counters
+pub mod Table
+pub mod Loaded
+pub mod Visits
+pub mod Ranking
