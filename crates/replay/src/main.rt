@@ -2,6 +2,7 @@
 // pattern, and its answer, all of its output and all of its work area are compared. docs/ANSWERS.md says the format.
 use gfa::input::Answer;
 use gfa::services::spell_path;
+use report::services::diagnose_gfa_with_top_n;
 use scan::names::same_constant;
 use scan::numbers::Number;
 use scan::numbers::number_of;
@@ -122,8 +123,23 @@ fn same_answer(a: Answer, c: Case) -> bool {
     a.length == c.size
 }
 
-// Replays a case of the service that spells: the answer, the output and the work area are as recorded, and nothing else changed.
-fn spell_agrees(text: &[u8], output: &[u8], c: Case, out: &mut [u8], work: &mut [u32]) -> bool {
+// Calls a service, named by the first letter of its word.
+fn call(service: u8, text: &[u8], arg: usize, out: &mut [u8], work: &mut [u32]) -> Answer {
+    if service == b'r' {
+        return diagnose_gfa_with_top_n(text, arg, out, work);
+    }
+    spell_path(text, arg, out, work)
+}
+
+// Replays a call: the answer, the output and the work area are as recorded, and nothing else changed.
+fn call_agrees(
+    service: u8,
+    text: &[u8],
+    output: &[u8],
+    c: Case,
+    out: &mut [u8],
+    work: &mut [u32],
+) -> bool {
     let room = c.room;
     let words = c.words;
     if out.len() < room {
@@ -134,7 +150,7 @@ fn spell_agrees(text: &[u8], output: &[u8], c: Case, out: &mut [u8], work: &mut 
     }
     fill_bytes(out);
     fill_words(work);
-    let a = spell_path(text, c.arg, &mut out[..room], &mut work[..words]);
+    let a = call(service, text, c.arg, &mut out[..room], &mut work[..words]);
     if !same_answer(a, c) {
         return false;
     }
@@ -213,6 +229,7 @@ fn end_of(size: usize, from: usize, long: usize) -> usize
 fn case_agrees(list: &[u8], at: usize, end: usize, out: &mut [u8], work: &mut [u32]) -> bool
     requires { ⌜ (at ≤ end) × (end < length (now list)) ⌝ }
 {
+    let service = list[at];
     let c = case_at(list, at, end);
     let text = end + 1;
     let stop = end_of(list.len(), text, c.text);
@@ -221,11 +238,19 @@ fn case_agrees(list: &[u8], at: usize, end: usize, out: &mut [u8], work: &mut [u
     }
     let output = stop + 1;
     let last = end_of(list.len(), output, c.output);
-    spell_agrees(&list[text..stop], &list[output..last], c, out, work)
+    call_agrees(
+        service,
+        &list[text..stop],
+        &list[output..last],
+        c,
+        out,
+        work,
+    )
 }
 
-// Replays the case whose header stands from `at` up to `end`, if it is one of the service that spells; a header that differs is printed.
+// Replays the case whose header stands from `at` up to `end`, if it is one of the service; a header that differs is printed.
 fn replay_case(
+    service: u8,
     list: &[u8],
     at: usize,
     end: usize,
@@ -236,7 +261,7 @@ fn replay_case(
     requires { ⌜ (at ≤ end) × (end < length (now list)) × (t .cases < 1000000) × (t .differ ≤ t .cases) ⌝ }
     ensures { λ r. ⌜ (r .cases ≤ t .cases + 1) × (r .differ ≤ r .cases) ⌝ }
 {
-    if list[at] != b's' {
+    if list[at] != service {
         return t;
     }
     let agrees = case_agrees(list, at, end, out, work);
@@ -261,8 +286,8 @@ fn next_at(list: &[u8], at: usize, end: usize) -> usize
     case_end(list, c, end)
 }
 
-// Replays a list, line by line: a turn passes an empty line, a comment, or a case. There are no more turns than bytes.
-fn replay(list: &[u8], out: &mut [u8], work: &mut [u32]) -> Tally {
+// Replays the cases of a service, line by line: a turn passes an empty line, a comment, or a case. There are no more turns than bytes.
+fn replay(service: u8, list: &[u8], out: &mut [u8], work: &mut [u32]) -> Tally {
     let mut t = Tally {
         cases: 0,
         differ: 0,
@@ -277,11 +302,21 @@ fn replay(list: &[u8], out: &mut [u8], work: &mut [u32]) -> Tally {
         if end == list.len() {
             return t;
         }
-        t = replay_case(list, at, end, out, work, t);
+        t = replay_case(service, list, at, end, out, work, t);
         at = next_at(list, at, end);
         turns += 1;
     }
     t
+}
+
+// What became of the cases of a service.
+fn print(name: &[u8], t: Tally) {
+    io::write_all(1, name);
+    io::write_all(1, b": ");
+    io::print_decimal(1, t.cases);
+    io::write_all(1, b" replayed, ");
+    io::print_decimal(1, t.differ);
+    io::write_all(1, b" differ\n");
 }
 
 fn main() {
@@ -289,10 +324,6 @@ fn main() {
     let mut out = [0u8; 65536];
     let mut work = [0u32; 8192];
     let size = io::read_full(0, &mut list);
-    let t = replay(&list[..size], &mut out, &mut work);
-    io::write_all(1, b"spell: ");
-    io::print_decimal(1, t.cases);
-    io::write_all(1, b" replayed, ");
-    io::print_decimal(1, t.differ);
-    io::write_all(1, b" differ\n");
+    print(b"spell", replay(b's', &list[..size], &mut out, &mut work));
+    print(b"report", replay(b'r', &list[..size], &mut out, &mut work));
 }

@@ -1,13 +1,13 @@
 -- The counters of a node, with one path more: what its runs add is what its steps add. Assumes nothing.
-use Prim.Native.Nat.{ℕ, zero, suc, _+_, _-_, _≤_, _<_, max}
+use Prim.Native.Nat.{ℕ, suc, _+_, _-_, _≤_, max}
 use native.Mathlib.Omega.{arith}
-use mathlib.Core.Bool.{Bool, true, false, cond, _&&_, _||_}
-use mathlib.Core.List.{List, [], _∷_, _++_, map}
-use mathlib.Core.Path.{_≡_, refl, sym, ap, _∙_}
+use mathlib.Core.Bool.{Bool, true, false, cond, _&&_}
+use mathlib.Core.List.{List, [], _∷_}
+use mathlib.Core.Path.{_≡_, refl, _∙_}
 use lib.Dec.{eqb, leb, ltb}
 use lib.ListN.{length}
-use borrow.Author.Tests.{ltb-true, ltb-false, leb-true, leb-false, lt-ltb, le-ltb, eqb-true, eqb-false, eq-eqb, ne-eqb}
-use Rattle.gfa_spec.specs.Bytes.{any, count, keep, same}
+use borrow.Author.Tests.{ltb-true, ltb-false, lt-ltb, le-ltb, eq-eqb}
+use Rattle.gfa_spec.specs.Bytes.{any, count, keep}
 use Rattle.gfa_spec.specs.Reading.{Step}
 use Rattle.gfa_spec.specs.Runs.{Run, runs, extend, isRepeat, pairs, bit, sameStep}
 use Rattle.gfa_spec.proofs.Tests.{by-test}

@@ -6,7 +6,6 @@ use mathlib.Core.Bool.{Bool, true, false}
 use mathlib.Core.List.{List}
 use mathlib.Core.Path.{_≡_, sym, _∙_}
 use lib.ListN.{length, getD}
-use Rattle.gfa_spec.specs.Bytes.{part, same}
 use Rattle.scan.specs.Places.{SameIs}
 use Rattle.work.specs.Rows.{EachRow}
 use Rattle.work.proofs.Rows.{each-more, each-none}

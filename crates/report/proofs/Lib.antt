@@ -13,3 +13,11 @@ pub mod StepBounds
 pub mod Visiting
 pub mod Passing
 pub mod Merges
+pub mod Pieces
+pub mod Listing
+pub mod Lengths
+pub mod Grouping
+pub mod Repeating
+pub mod Ordering
+pub mod Reported
+pub mod Answering

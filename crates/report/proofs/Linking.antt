@@ -1,31 +1,30 @@
 -- The pass over the links: the node table after each. Assumes nothing.
-use Prim.Native.Nat.{ℕ, zero, suc, _+_, _*_, _≤_, _<_}
+use Prim.Native.Nat.{ℕ, suc, _+_, _*_, _≤_, _<_}
 use native.Mathlib.Numerals.{add-one}
 use native.Mathlib.Omega.{arith}
-use mathlib.Core.Bool.{Bool, true, false, not}
+use mathlib.Core.Bool.{Bool, true, false}
 use mathlib.Core.List.{List, [], _∷_, _++_}
-use mathlib.Core.Logic.{inl, inr}
-use mathlib.Core.Path.{_≡_, refl, sym, ap, subst, _∙_}
-use lib.ListN.{length, getD, length-append}
+use mathlib.Core.Logic.{inl}
+use mathlib.Core.Path.{_≡_, refl, sym, subst, _∙_}
+use lib.ListN.{length, getD}
 use lib.Seq.{sets, length-sets}
-use Rattle.gfa_spec.specs.Bytes.{part, same, any, keep}
-use Rattle.gfa_spec.specs.Reading.{Link}
+use Rattle.gfa_spec.specs.Bytes.{part, same, keep}
 use Rattle.gfa_spec.specs.Records.{isSelfLink}
 use Rattle.gfa_spec.proofs.Tests.{by-test}
 use Rattle.scan.specs.Places.{SameIs}
-use Rattle.work.specs.Rows.{rowsAt, EachRow, span, Only}
+use Rattle.work.specs.Rows.{rowsAt, EachRow, span}
 use Rattle.work.proofs.Rows.{Kept, only-none, only-put, only-wider, only-then, only-kept, kept-within, outside-less, rows-snoc, rows-length, each-kept, each-none}
 use Rattle.gfa.specs.declared.tables.Bases.{Bases}
 use Rattle.gfa.specs.declared.tables.Counts.{Counts}
 use Rattle.gfa.specs.Segments.{segmentsAt}
 use Rattle.gfa.specs.Paths.{pathsAt}
 use Rattle.gfa.specs.Passes.{overRows}
-use Rattle.gfa.specs.Links.{linkAt, linksAt, LinkRow}
+use Rattle.gfa.specs.Links.{linkAt, linksAt}
 use Rattle.gfa.proofs.TableRows.{segments-kept, segment-rows-kept, links-kept, link-rows-kept, step-rows-kept, path-row-kept, paths-kept}
 use Rattle.report_spec.specs.Nodes.{eachOnce}
 use Rattle.report.specs.declared.nodes.Place.{Place}
 use Rattle.report.specs.declared.nodes.Place.the-variants.{At, Nowhere}
-use Rattle.report.specs.Table.{nameAt, NameRow, Elsewhere, PlaceIs, linkWords, linksAmong, LinkCounts, CountRow, NodeTable}
+use Rattle.report.specs.Table.{nameAt, Elsewhere, PlaceIs, linkWords, linksAmong, CountRow, NodeTable}
 use Rattle.report.specs.Loaded.{tableOf, Loaded, newWords, NodesIs}
 use Rattle.report.proofs.Pairs.{bits-small}
 use Rattle.report.proofs.Names.{isOn}

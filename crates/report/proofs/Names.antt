@@ -1,15 +1,15 @@
 -- The names of nodes, each once, and the self-links of a node, with one link more. Assumes nothing.
 use Prim.Native.Nat.{ℕ}
-use native.Mathlib.Omega.{arith}
 use mathlib.Core.Bool.{Bool, true, false, cond, _&&_, _||_}
-use mathlib.Core.List.{List, [], _∷_, _++_, map, map-append, append-nil}
+use mathlib.Core.List.{List, [], _∷_, _++_, map, map-append}
 use mathlib.Core.Path.{_≡_, refl, sym, ap, _∙_}
 use Rattle.gfa_spec.specs.Bytes.{same, any, keep}
 use Rattle.gfa_spec.specs.Reading.{Link}
 use Rattle.gfa_spec.specs.Records.{isSelfLink}
-use Rattle.gfa_spec.proofs.Tests.{by-test, clash, agree, both, and-both, or-left, or-right, refute, same-equal, equal-same, same-sym, any-append, any-implies}
+use Rattle.gfa_spec.proofs.Tests.{by-test, clash, both, or-left, or-right, refute, same-equal, equal-same, same-sym}
 use Rattle.report_spec.specs.Nodes.{eachOnce}
 use Rattle.report.specs.Table.{linksAmong}
+use Rattle.report.proofs.Pairs.{or-false}
 
 -- ---- each name once
 
@@ -17,10 +17,6 @@ use Rattle.report.specs.Table.{linksAmong}
 pub or-true : (t : Bool) → (t || true) ≡ true
 or-true true = refl
 or-true false = refl
-
-or-false : (t : Bool) → (t || false) ≡ t
-or-false true = refl
-or-false false = refl
 
 -- a name that is seen is seen under an equal name
 seen-same : (x y : List ℕ) (seen : List (List ℕ)) → same x y ≡ true → any (same x) seen ≡ any (same y) seen

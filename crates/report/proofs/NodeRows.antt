@@ -2,7 +2,7 @@
 use Prim.Native.Nat.{ℕ, zero, suc, _+_, _*_, _≤_, _<_}
 use native.Mathlib.Decide.{decLt, ℕ-discrete}
 use native.Mathlib.Omega.{arith}
-use mathlib.Core.Bool.{Bool, true, false, cond, _||_}
+use mathlib.Core.Bool.{true, false}
 use mathlib.Core.List.{List, [], _∷_, _++_, append-nil}
 use mathlib.Core.Logic.{_⊎_, inl, inr}
 use mathlib.Core.Path.{_≡_, refl, sym, ap, _∙_}
@@ -13,10 +13,10 @@ use Rattle.gfa_spec.specs.Reading.{Segment, Link, Path}
 use Rattle.gfa_spec.specs.Records.{segmentNumber, sequenceOrEmpty, isSelfLink}
 use Rattle.gfa_spec.specs.Runs.{bit}
 use Rattle.gfa_spec.specs.Sequences.{sequenceLen}
-use Rattle.gfa_spec.proofs.Tests.{by-test, clash, same-equal, same-refl, same-sym, any-append}
-use Rattle.work.specs.Rows.{rowsAt, EachRow, span, Only}
-use Rattle.work.proofs.Rows.{Kept, only-put, only-kept, kept-within, rows-kept, rows-snoc, each-kept, each-more}
-use Rattle.work.proofs.Stores.{sets-here, sets-first, sets-above}
+use Rattle.gfa_spec.proofs.Tests.{same-equal, same-refl, same-sym, any-append}
+use Rattle.work.specs.Rows.{rowsAt, EachRow}
+use Rattle.work.proofs.Rows.{Kept, only-put, only-kept, kept-within, rows-kept, rows-snoc, each-more}
+use Rattle.work.proofs.Stores.{sets-here, sets-first}
 use Rattle.report_spec.specs.Nodes.{eachOnce}
 use Rattle.report.specs.Counters.{noCounter}
 use Rattle.report.specs.Table.{nameAt, NameRow, counterAt, Elsewhere, markedOf, nodeWords, code, bitsOf, wordOf, linksAmong, LinkCounts, CountRow, Differ, NodeTable}

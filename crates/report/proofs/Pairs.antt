@@ -1,12 +1,12 @@
 -- Orientation pairs by their weights: which are there with one link more. Assumes nothing.
-use Prim.Native.Nat.{ℕ, _+_, _*_, _/_, _%_, _≤_, _<_}
+use Prim.Native.Nat.{ℕ, _+_, _/_, _%_, _≤_, _<_}
 use native.Mathlib.Decide.{ℕ-discrete}
 use native.Mathlib.Omega.{arith}
 use mathlib.Core.Bool.{Bool, true, false, cond, _&&_, _||_}
 use mathlib.Core.List.{List, [], _∷_, _++_}
-use mathlib.Core.Path.{_≡_, refl, sym, _∙_}
-use lib.Dec.{eqb, T}
-use borrow.Author.Tests.{eqb-true, eq-eqb, ne-eqb}
+use mathlib.Core.Path.{_≡_, refl, sym}
+use lib.Dec.{eqb}
+use borrow.Author.Tests.{eqb-true, ne-eqb}
 use Rattle.gfa_spec.specs.Bytes.{same, any}
 use Rattle.gfa_spec.specs.Reading.{Link}
 use Rattle.gfa_spec.specs.Runs.{bit}
@@ -15,10 +15,10 @@ use Rattle.report.specs.Table.{weightOf, markedOf, code, isPair, bitsOf}
 
 -- ---- every four tests
 
-both : (Bool → Bool) → Bool
+unfoldable pub both : (Bool → Bool) → Bool
 both p = p true && p false
 
-each : (Bool → Bool → Bool → Bool → Bool) → Bool
+unfoldable pub each : (Bool → Bool → Bool → Bool → Bool) → Bool
 each p = both (λ f. both (λ g. both (λ h. both (λ k. p f g h k))))
 
 of-both : (p : Bool → Bool) (f : Bool) → both p ≡ true → p f ≡ true
@@ -26,7 +26,7 @@ unfolding both
 of-both p true e = and-left (p true) (p false) e
 of-both p false e = and-right (p true) (p false) e
 
-of-each : (p : Bool → Bool → Bool → Bool → Bool) (f g h k : Bool) → each p ≡ true → p f g h k ≡ true
+pub of-each : (p : Bool → Bool → Bool → Bool → Bool) (f g h k : Bool) → each p ≡ true → p f g h k ≡ true
 unfolding each
 of-each p f g h k e =
     of-both (p f g h) k (of-both (λ h. both (p f g h)) h (of-both (λ g. both (λ h. both (p f g h))) g (of-both (λ f. both (λ g. both (λ h. both (p f g h)))) f e)))
@@ -64,13 +64,13 @@ marks-computed a b e f g h k = eqb-true (markedOf (code f g h k) a b)
     (of-each (right a b) f g h k e)
 
 -- no other pair is there
-or-no : (t : Bool) → (t || false) ≡ t
-or-no true = refl
-or-no false = refl
+pub or-false : (t : Bool) → (t || false) ≡ t
+or-false true = refl
+or-false false = refl
 
 marks-none : (a b : ℕ) → weightOf a b ≡ 0 → same (43 ∷ 43 ∷ []) (a ∷ b ∷ []) ≡ false → same (43 ∷ 45 ∷ []) (a ∷ b ∷ []) ≡ false → same (45 ∷ 43 ∷ []) (a ∷ b ∷ []) ≡ false → same (45 ∷ 45 ∷ []) (a ∷ b ∷ []) ≡ false → Marks a b
 unfolding Marks markedOf
-marks-none a b w p q r s f g h k = rw (w, p, q, r, s, or-no f, or-no g, or-no h, or-no k)
+marks-none a b w p q r s f g h k = rw (w, p, q, r, s, or-false f, or-false g, or-false h, or-false k)
 
 marks-first : (a b : ℕ) → (a ≡ 43 → ⊥) → (a ≡ 45 → ⊥) → Marks a b
 unfolding weightOf same
@@ -129,9 +129,9 @@ marks a b = go (ℕ-discrete a 43) (ℕ-discrete a 45) (ℕ-discrete b 43) (ℕ-
 
 any-last : {A : Type 0} (p : A → Bool) (xs : List A) (x : A) → any p (xs ++ (x ∷ [])) ≡ (any p xs || p x)
 unfolding any
-any-last p xs x = rw (any-append, or-no (p x))
+any-last p xs x = rw (any-append, or-false (p x))
 
-bit-small : (t : Bool) → bit t ≤ 1
+pub bit-small : (t : Bool) → bit t ≤ 1
 unfolding bit
 bit-small true = omega arith
 bit-small false = omega arith

@@ -1,20 +1,18 @@
 -- The loops over the runs of a path, and over the paths. Assumes nothing.
-use Prim.Native.Nat.{ℕ, zero, suc, _+_, _*_, _-_, _≤_, _<_}
-use native.Mathlib.Nat.{mul-add}
+use Prim.Native.Nat.{ℕ, _+_, _*_, _-_, _≤_, _<_}
 use native.Mathlib.Numerals.{add-one}
 use native.Mathlib.Omega.{arith}
-use mathlib.Core.List.{List, [], _∷_, _++_, map}
-use mathlib.Core.Path.{_≡_, refl, sym, ap, subst, _∙_}
+use mathlib.Core.List.{List, [], _∷_, _++_}
+use mathlib.Core.Path.{_≡_, sym, ap, subst, _∙_}
 use lib.ListN.{length, getD}
 use Rattle.gfa_spec.specs.Bytes.{sum, count, join}
-use Rattle.gfa_spec.specs.Reading.{Path}
 use Rattle.gfa_spec.specs.Runs.{runs}
 use Rattle.work.specs.Rows.{rowsAt, EachRow}
 use Rattle.work.proofs.Rows.{Kept, kept-within, rows-snoc, rows-length}
 use Rattle.gfa.specs.declared.tables.Bases.{Bases}
 use Rattle.gfa.specs.declared.tables.Counts.{Counts}
 use Rattle.gfa.specs.Steps.{stepAt, stepsAt, StepRow}
-use Rattle.gfa.specs.Paths.{pathAt, pathsAt, PathRow}
+use Rattle.gfa.specs.Paths.{pathAt, pathsAt}
 use Rattle.gfa.specs.Passes.{overRows}
 use Rattle.gfa.proofs.TableRows.{steps-kept, step-rows-kept}
 use Rattle.work.proofs.RowCuts.{rows-all, rows-none, rows-split, each-part}

@@ -4,9 +4,9 @@ use native.Mathlib.Numerals.{add-one}
 use native.Mathlib.Omega.{arith}
 use mathlib.Core.Bool.{Bool, true, false, cond, _&&_, _||_, false≢true}
 use mathlib.Core.List.{List, [], _∷_, _++_, map, map-append}
-use mathlib.Core.Path.{_≡_, refl, sym, ap, _∙_}
+use mathlib.Core.Path.{_≡_, refl, _∙_}
 use mathlib.Core.Option.{Option·elim}
-use lib.Dec.{eqb, leb, ltb}
+use lib.Dec.{eqb, ltb}
 use lib.ListN.{length, length-append}
 use borrow.Author.Tests.{ltb-true, ltb-false, leb-true, eq-eqb, ne-eqb}
 use Rattle.gfa_spec.specs.Bytes.{any, count, sum, join, isEmpty}
@@ -19,11 +19,11 @@ use Rattle.writers.proofs.Joining.{join-last}
 use Rattle.report_spec.specs.Nodes.{on, visits, repeats, repeatsAt, longest, pathName, firstWith, total}
 use Rattle.report.specs.declared.counters.Counter.{Counter}
 use Rattle.report.specs.Counters.{noCounter, finish, named, Counted}
-use Rattle.report.proofs.Counting.{repeatsOn, Finished, finished, Summed, summed}
+use Rattle.report.proofs.Counting.{repeatsOn, finished, summed}
 
 -- ---- one more behind the others
 
-sum-last : {A : Type 0} (f : A → ℕ) (xs : List A) (x : A) → sum (map f (xs ++ (x ∷ []))) ≡ sum (map f xs) + f x
+pub sum-last : {A : Type 0} (f : A → ℕ) (xs : List A) (x : A) → sum (map f (xs ++ (x ∷ []))) ≡ sum (map f xs) + f x
 unfolding sum
 sum-last f [] x = omega arith
 sum-last f (y ∷ ys) x = omega (arith, sum-last f ys x)
@@ -37,12 +37,12 @@ unfolding count
 count-last t [] x = by-test (t x) (λ e. rw e) (λ e. rw e)
 count-last t (y ∷ ys) x = by-test (t y) (λ e. by-test (t x) (λ f. rw (e, f) (omega (arith, rw f at (count-last t ys x)))) (λ f. rw (e, f) (omega (arith, rw f at (count-last t ys x))))) (λ e. rw e (count-last t ys x))
 
-joined-last : {A : Type 0} (f : Path → List A) (ps : List Path) (p : Path) → join (map f (ps ++ (p ∷ []))) ≡ join (map f ps) ++ f p
+pub joined-last : {A : Type 0} (f : Path → List A) (ps : List Path) (p : Path) → join (map f (ps ++ (p ∷ []))) ≡ join (map f ps) ++ f p
 joined-last f ps p = rw (map-append f ps (p ∷ [])) (join-last (map f ps) (f p))
 
 -- ---- the longest run
 
-longest-append : (xs ys : List Run) → longest (xs ++ ys) ≡ max (longest xs) (longest ys)
+pub longest-append : (xs ys : List Run) → longest (xs ++ ys) ≡ max (longest xs) (longest ys)
 unfolding longest
 longest-append [] ys = omega arith
 longest-append (x ∷ xs) ys = omega (arith, longest-append xs ys)

@@ -1,12 +1,10 @@
 -- The segment of a node: its number and its sequence, by the row that was found. Assumes nothing.
-use Prim.Native.Nat.{ℕ, zero, suc, _+_, _*_, _≤_, _<_}
+use Prim.Native.Nat.{ℕ, suc, _+_, _*_, _≤_, _<_}
 use native.Mathlib.Numerals.{add-one}
 use native.Mathlib.Omega.{arith}
-use mathlib.Core.Bool.{Bool, true, false, cond}
 use mathlib.Core.List.{List, [], _∷_}
-use mathlib.Core.Option.{Option, none, some, Option·map, Option·getD}
+use mathlib.Core.Option.{Option, none, some, Option·map}
 use mathlib.Core.Path.{_≡_, refl, sym, ap, _∙_}
-use lib.Dec.{eqb}
 use lib.ListN.{length, getD, length-take, length-drop}
 use Rattle.gfa_spec.specs.Bytes.{part, same, star, nth}
 use Rattle.gfa_spec.specs.Reading.{Segment}
@@ -25,12 +23,12 @@ map-none : (o : Option ℕ) → Option·map suc o ≡ none → o ≡ none
 map-none none e = refl
 map-none (some k) e = let z : _≡_ {A = ℕ} 0 1 = cc in absurd (omega arith)
 
-map-some : (o : Option ℕ) (k : ℕ) → Option·map suc o ≡ some k → (j : ℕ) × (o ≡ some j) × (k ≡ suc j)
+pub map-some : (o : Option ℕ) (k : ℕ) → Option·map suc o ≡ some k → (j : ℕ) × (o ≡ some j) × (k ≡ suc j)
 map-some none k e = let z : _≡_ {A = ℕ} 0 1 = cc in absurd (omega arith)
 map-some (some j) k e = (j, refl, cc)
 
 -- no segment has the name: there is no sequence
-none-sequence : (ss : List Segment) (name : List ℕ) → segmentNumber ss name ≡ none → sequenceOf ss name ≡ none
+pub none-sequence : (ss : List Segment) (name : List ℕ) → segmentNumber ss name ≡ none → sequenceOf ss name ≡ none
 unfolding segmentNumber sequenceOf
 none-sequence [] name e = refl
 none-sequence (s ∷ ss) name e =
@@ -39,7 +37,7 @@ none-sequence (s ∷ ss) name e =
     (λ t. rw t (none-sequence ss name (map-none (segmentNumber ss name) (rw t at e))))
 
 -- segment k has the name: the sequence is its
-some-sequence : (ss : List Segment) (name : List ℕ) (k : ℕ) (d : Segment) → segmentNumber ss name ≡ some k → sequenceOf ss name ≡ some (nth k ss d .sequence)
+pub some-sequence : (ss : List Segment) (name : List ℕ) (k : ℕ) (d : Segment) → segmentNumber ss name ≡ some k → sequenceOf ss name ≡ some (nth k ss d .sequence)
 unfolding segmentNumber sequenceOf nth
 some-sequence [] name k d e = let z : _≡_ {A = ℕ} 0 1 = cc in absurd (omega arith)
 some-sequence (s ∷ ss) name k d e =

@@ -1,13 +1,12 @@
 -- A text has no more steps than bytes, and one. Assumes nothing.
 use Prim.Native.Nat.{ℕ, zero, suc, _+_, _≤_, _<_}
 use native.Mathlib.Omega.{arith}
-use mathlib.Core.Bool.{Bool, true, false, cond, _||_}
+use mathlib.Core.Bool.{_||_}
 use mathlib.Core.List.{List, [], _∷_, _++_, map, append-nil}
-use mathlib.Core.Path.{_≡_, refl, sym, ap, _∙_}
-use lib.Dec.{eqb}
+use mathlib.Core.Path.{_≡_, refl, ap}
 use lib.ListN.{length}
-use Rattle.gfa_spec.specs.Bytes.{Part, bytesOf, same, star, isEmpty, split, longer, nth, sum, one, nil}
-use Rattle.gfa_spec.specs.Reading.{Step, Path, Entry, header, comment, blank, other, segment, link, path, choose, Read, refused, accepted, then, parsed, parse, idOf, lines, fields, nowhere, isStep, stepOf, parseItems, parsePSteps, walk, isMark, nonEmpty, parseWSteps}
+use Rattle.gfa_spec.specs.Bytes.{Part, bytesOf, same, star, isEmpty, split, nth, sum, one, nil}
+use Rattle.gfa_spec.specs.Reading.{Step, Path, Entry, choose, Read, refused, accepted, then, parsed, parse, idOf, lines, fields, nowhere, isStep, stepOf, parseItems, parsePSteps, walk, isMark, nonEmpty, parseWSteps}
 use Rattle.gfa_spec.specs.Records.{collect, paths}
 use Rattle.gfa_spec.proofs.Tests.{by-test}
 use Rattle.gfa_spec.proofs.Answers.{not-accepted}
@@ -36,7 +35,7 @@ items-few (p ∷ ps) steps h =
     (λ f. absurd (not-accepted (rw (e, f) at h))))
 
 split-few : (b at : ℕ) (s : List ℕ) → length (split b at s) ≤ suc (length s)
-unfolding weight
+unfolding weight sum bytesOf
 split-few b at s = omega (arith, few (split b at s), weight-split b at s)
   where
     few : (ps : List Part) → length ps ≤ weight ps

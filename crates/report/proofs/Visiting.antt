@@ -1,23 +1,23 @@
 -- The pass over the steps: the counters after each run. Assumes nothing.
-use Prim.Native.Nat.{ℕ, zero, suc, _+_, _*_, _-_, _≤_, _<_}
+use Prim.Native.Nat.{ℕ, _+_, _*_, _-_, _≤_, _<_}
 use native.Mathlib.Decide.{decLt, ℕ-discrete}
 use native.Mathlib.Omega.{arith}
-use mathlib.Core.Bool.{Bool, true, false, cond, _&&_}
-use mathlib.Core.List.{List, [], _∷_, _++_}
-use mathlib.Core.Logic.{_⊎_, inl, inr}
+use mathlib.Core.Bool.{Bool, true, false, cond}
+use mathlib.Core.List.{List, [], _∷_}
+use mathlib.Core.Logic.{inl, inr}
 use mathlib.Core.Path.{_≡_, refl, sym, ap, _∙_}
-use lib.Dec.{eqb, leb, ltb}
+use lib.Dec.{eqb, leb}
 use lib.ListN.{length, getD}
 use lib.Seq.{sets, length-sets}
 use Rattle.gfa_spec.specs.Bytes.{part, same}
 use Rattle.gfa_spec.specs.Reading.{Step}
-use Rattle.gfa_spec.specs.Runs.{Run, runs, extend, sameNode, bit}
+use Rattle.gfa_spec.specs.Runs.{Run, runs, sameNode, bit}
 use Rattle.gfa_spec.proofs.Tests.{by-test, same-equal, same-sym}
 use Rattle.scan.specs.Places.{partAt}
-use Rattle.work.specs.Rows.{rowsAt, EachRow, span, Only, Small}
-use Rattle.work.proofs.Rows.{Kept, only-none, only-put, only-then, only-wider, only-kept, kept-within, outside-less}
+use Rattle.work.specs.Rows.{rowsAt, EachRow, span, Small}
+use Rattle.work.proofs.Rows.{Kept, only-none, only-put, only-then, only-wider, only-kept, outside-less}
 use Rattle.work.proofs.Stores.{sets-here, sets-first}
-use Rattle.gfa.specs.Steps.{stepAt, stepsAt, StepRow}
+use Rattle.gfa.specs.Steps.{stepAt, stepsAt}
 use Rattle.gfa.specs.Passes.{RunIs}
 use Rattle.work.proofs.RowCuts.{rows-cons, rows-none}
 use Rattle.report_spec.specs.Nodes.{on}
@@ -25,9 +25,10 @@ use Rattle.report.specs.declared.counters.Counter.{Counter}
 use Rattle.report.specs.declared.nodes.Place.{Place}
 use Rattle.report.specs.declared.nodes.Place.the-variants.{At, Nowhere}
 use Rattle.report.specs.Counters.{isLonger, countedOf, counterWords, Fits, goesOn, finish}
-use Rattle.report.specs.Table.{nameAt, NameRow, counterAt, Elsewhere, PlaceIs, Differ}
+use Rattle.report.specs.Table.{nameAt, counterAt, PlaceIs}
 use Rattle.report.specs.Visits.{FitRow, Countable, Recounted, RunCounted, NextCounted}
 use Rattle.report.proofs.Counting.{first-run, finish-here, finish-elsewhere}
+use Rattle.report.proofs.Pairs.{bit-small}
 use Rattle.report.proofs.NodeRows.{each-to, name-kept, name-row-kept, counter-kept}
 use Rattle.report.proofs.Linking.{found, nowhere}
 
@@ -85,9 +86,6 @@ counter-put c w at h =
     )
 
 module _ (w : List ℕ) (table m k : ℕ) (h : k < m) (c : Counter) where
-  stored : List ℕ
-  stored = sets w (table + 14 * k + 6) (counterWords c)
-
   recounted-put : Recounted w (sets w (table + 14 * k + 6) (counterWords c)) table m
   recounted-put =
       record {
@@ -109,20 +107,15 @@ module _ (w : List ℕ) (table m k : ℕ) (h : k < m) (c : Counter) where
 
 -- ---- numbers that fit
 
-bit-le : (t : Bool) → bit t ≤ 1
-unfolding bit
-bit-le true = omega arith
-bit-le false = omega arith
-
 repeat-le : (times : ℕ) → 1 ≤ times → bit (leb 2 times) ≤ times
-repeat-le times h = omega (arith, bit-le (leb 2 times))
+repeat-le times h = omega (arith, bit-small (leb 2 times))
 
 module _ {left times path : ℕ} {c : Counter} (more : Bool) (f : Fits (left + times) path c) (t : 1 ≤ times) where
   pub fits-more : Fits left path (countedOf c times path more)
   fits-more =
       record {
         visits = omega (arith, f .visits);
-        adjacent = omega (arith, f .adjacent, bit-le more);
+        adjacent = omega (arith, f .adjacent, bit-small more);
         equal = omega (arith, f .equal);
         runs = omega (arith, f .runs, repeat-le times t);
         longest = by-test (isLonger c times) (λ e. rw e (omega arith)) (λ e. rw e (omega (arith, f .longest)));

@@ -7,7 +7,7 @@ use mathlib.Core.Path.{_≡_}
 use lib.Dec.{eqb, leb, ltb}
 use lib.ListN.{length}
 use Rattle.gfa_spec.specs.Bytes.{any, count, join, isEmpty}
-use Rattle.gfa_spec.specs.Reading.{Step, Path}
+use Rattle.gfa_spec.specs.Reading.{Path}
 use Rattle.gfa_spec.specs.Runs.{Run, pairs, bit, sameStep}
 use Rattle.gfa_spec.specs.Services.{pathAt}
 use Rattle.report_spec.specs.Nodes.{on, visits as visitsOf, repeatsAt, longest as longestOf, pathName, firstWith, total}

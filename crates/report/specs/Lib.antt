@@ -5,3 +5,6 @@ pub mod Table
 pub mod Loaded
 pub mod Visits
 pub mod Ranking
+pub mod Report
+pub mod Groups
+pub mod Totals

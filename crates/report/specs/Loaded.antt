@@ -1,9 +1,8 @@
 -- What the passes over the tables of a text ask, and what they make of the words behind the steps.
-use Prim.Native.Nat.{ℕ, suc, _+_, _*_, _≤_, _<_}
+use Prim.Native.Nat.{ℕ, _+_, _*_, _≤_}
 use mathlib.Core.List.{List, [], _∷_}
 use mathlib.Core.Path.{_≡_}
 use lib.ListN.{length, getD}
-use lib.Seq.{sets}
 use Rattle.gfa_spec.specs.Bytes.{part}
 use Rattle.gfa_spec.specs.Records.{segmentNumber, sequenceOrEmpty}
 use Rattle.gfa_spec.specs.Sequences.{sequenceLen}

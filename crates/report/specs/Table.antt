@@ -11,7 +11,7 @@ use Rattle.gfa_spec.specs.Reading.{Segment, Link, Path}
 use Rattle.gfa_spec.specs.Records.{segmentNumber, sequenceOrEmpty, isSelfLink}
 use Rattle.gfa_spec.specs.Runs.{bit}
 use Rattle.gfa_spec.specs.Sequences.{sequenceLen}
-use Rattle.work.specs.Rows.{rowsAt, EachRow, span, Only}
+use Rattle.work.specs.Rows.{rowsAt, EachRow}
 use Rattle.gfa.specs.Segments.{segmentsAt}
 use Rattle.report_spec.specs.Nodes.{eachOnce}
 use Rattle.report.specs.declared.counters.Counter.{Counter}

@@ -9,7 +9,7 @@ use Rattle.gfa_spec.specs.Runs.{runs}
 use Rattle.work.specs.Rows.{EachRow, span, Only}
 use Rattle.gfa.specs.declared.tables.Bases.{Bases}
 use Rattle.gfa.specs.declared.tables.Counts.{Counts}
-use Rattle.gfa.specs.Steps.{stepsAt, StepRow}
+use Rattle.gfa.specs.Steps.{stepsAt}
 use Rattle.gfa.specs.Paths.{pathsAt}
 use Rattle.report.specs.Counters.{countedOf, finish, Fits}
 use Rattle.report.specs.Table.{nameAt, NameRow, counterAt, CountRow, Differ}

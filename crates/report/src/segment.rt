@@ -1,5 +1,4 @@
 // What the segment of a node says: its number and the length of its sequence.
-ghost use mathlib.Core.Path.{_≡_};
 ghost use Prim.Native.Nat.{_+_, _*_, _≤_};
 ghost use lib.ListN.{length};
 ghost use Rattle.work.specs.Rows.{EachRow};

@@ -2,9 +2,8 @@
 ghost use mathlib.Core.Path.{_≡_};
 ghost use mathlib.Core.List.{[]};
 ghost use Prim.Native.Nat.{_+_, _*_, _-_, _≤_, _<_};
-ghost use lib.ListN.{length, getD};
+ghost use lib.ListN.{length};
 ghost use Rattle.gfa_spec.specs.Runs.{runs};
-ghost use Rattle.scan.specs.Places.{partAt};
 ghost use Rattle.work.specs.Rows.{EachRow};
 ghost use Rattle.gfa.specs.Steps.{stepAt, stepsAt, StepRow};
 ghost use Rattle.report.specs.Counters.{goesOn};

@@ -7,10 +7,10 @@ use Rattle.replay.proofs.replay.Statement.{statement}
 use Rattle.replay.proofs.replay.Tie as tie
 
 abbrev Inv-loop : tie.InvT-loop
-Inv-loop list out₀ work₀ t₀ at₀ turns₀ out work t at turns = (t .cases ≤ turns) × (t .differ ≤ t .cases) × (turns ≤ 262144) × (length out ≡ length out₀) × (length work ≡ length work₀)
+Inv-loop service list out₀ work₀ t₀ at₀ turns₀ out work t at turns = (t .cases ≤ turns) × (t .differ ≤ t .cases) × (turns ≤ 262144) × (length out ≡ length out₀) × (length work ≡ length work₀)
 
 abbrev μ-loop : tie.MeasureT-loop
-μ-loop list out₀ work₀ t₀ at₀ turns₀ out work t at turns = 262144 - turns
+μ-loop service list out₀ work₀ t₀ at₀ turns₀ out work t at turns = 262144 - turns
 
 loop-holds : tie.Need-loop-holds Inv-loop μ-loop
 loop-holds c = search needs

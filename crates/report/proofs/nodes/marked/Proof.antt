@@ -6,7 +6,7 @@ use borrow.Author.Tests.{eq-eqb, ne-eqb}
 use Rattle.report.proofs.Pairs.{weight-small}
 use Rattle.report.proofs.nodes.marked.Statement.{statement}
 use Rattle.report.proofs.nodes.marked.Tie as tie
-use Rattle.report.specs.Table.{weightOf, markedOf}
+use Rattle.report.specs.Table.{markedOf}
 
 weight-requires : tie.Need-weight-requires
 weight-requires c κs = search needs

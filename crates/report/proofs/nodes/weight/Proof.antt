@@ -1,5 +1,5 @@
 -- `report::nodes::weight` meets its contract, by the two orientations. Assumes nothing.
-use borrow.Author.Tests.{eq-eqb, ne-eqb}
+use borrow.Author.Tests.{ne-eqb}
 use Rattle.report.proofs.nodes.weight.Statement.{statement}
 use Rattle.report.proofs.nodes.weight.Tie as tie
 use Rattle.report.specs.Table.{weightOf}

@@ -1,11 +1,9 @@
 -- `report::visits::count_run` meets its contract: no node has the name, or the row of the one that has it is counted. Assumes nothing.
 use native.Mathlib.Omega.{arith}
-use mathlib.Core.Path.{_∙_}
 use Rattle.report.proofs.Linking.{found}
 use Rattle.report.proofs.Visiting.{counted-small, run-nowhere, run-counted}
 use Rattle.report.proofs.visits.count_run.Statement.{statement}
 use Rattle.report.proofs.visits.count_run.Tie as tie
-use Rattle.report.specs.Visits.{FitRow}
 
 find-node-requires : tie.Need-find-node-requires
 find-node-requires c κs = ((c .before .before .before .pre .1 .0, c .before .before .before .pre .0 .room, c .before .before .before .pre .0 .few), c .before .before .before .pre .0 .named)

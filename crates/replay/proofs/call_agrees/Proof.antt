@@ -1,9 +1,9 @@
--- `replay::spell_agrees` is safe: the parts that it lends are within the buffers. Assumes nothing.
+-- `replay::call_agrees` is safe: the parts that it lends are within the buffers. Assumes nothing.
 use native.Mathlib.Omega.{arith}
 use lib.ListN.{length-take}
 use borrow.Author.Needs.{needs}
-use Rattle.replay.proofs.spell_agrees.Statement.{statement}
-use Rattle.replay.proofs.spell_agrees.Tie as tie
+use Rattle.replay.proofs.call_agrees.Statement.{statement}
+use Rattle.replay.proofs.call_agrees.Tie as tie
 
 returns : tie.Need-returns
 returns c = search needs
@@ -17,20 +17,20 @@ fill-bytes-requires c κs = search needs
 fill-words-requires : tie.Need-fill-words-requires
 fill-words-requires c κs = search needs
 
-slice-relend-prefix-spell-path : tie.Need-slice-relend-prefix-spell-path
-slice-relend-prefix-spell-path c = search needs
+slice-relend-prefix-call : tie.Need-slice-relend-prefix-call
+slice-relend-prefix-call c = search needs
 
-slice-aggregate-spell-path : tie.Need-slice-aggregate-spell-path
-slice-aggregate-spell-path c = simp length-take (omega arith)
+slice-aggregate-call : tie.Need-slice-aggregate-call
+slice-aggregate-call c = simp length-take (omega arith)
 
-slice-relend-prefix-spell-path-2 : tie.Need-slice-relend-prefix-spell-path-2
-slice-relend-prefix-spell-path-2 c = search needs
+slice-relend-prefix-call-2 : tie.Need-slice-relend-prefix-call-2
+slice-relend-prefix-call-2 c = search needs
 
-slice-aggregate-spell-path-2 : tie.Need-slice-aggregate-spell-path-2
-slice-aggregate-spell-path-2 c = simp length-take (omega arith)
+slice-aggregate-call-2 : tie.Need-slice-aggregate-call-2
+slice-aggregate-call-2 c = simp length-take (omega arith)
 
-spell-path-requires : tie.Need-spell-path-requires
-spell-path-requires c κs = search needs
+call-requires : tie.Need-call-requires
+call-requires c κs = search needs
 
 same-answer-requires : tie.Need-same-answer-requires
 same-answer-requires c κs = search needs
@@ -110,19 +110,19 @@ same-length-14 c = search needs
 returns-9 : tie.Need-returns-9
 returns-9 c = search needs
 
-pub spell-agrees-spec : {M : Type 1} → statement M
-spell-agrees-spec =
+pub call-agrees-spec : {M : Type 1} → statement M
+call-agrees-spec =
     tie.close
     (tie.spec
     returns
     returns-2
     fill-bytes-requires
     fill-words-requires
-    slice-relend-prefix-spell-path
-    slice-aggregate-spell-path
-    slice-relend-prefix-spell-path-2
-    slice-aggregate-spell-path-2
-    spell-path-requires
+    slice-relend-prefix-call
+    slice-aggregate-call
+    slice-relend-prefix-call-2
+    slice-aggregate-call-2
+    call-requires
     same-answer-requires
     same-length
     same-length-2

@@ -1,0 +1,52 @@
+-- `report::output::put_pairs` meets its contract: the word, the four pieces, and the line's end. Assumes nothing.
+use native.Mathlib.Omega.{arith}
+use mathlib.Core.List.{append-assoc}
+use borrow.Author.Needs.{needs}
+use Rattle.gfa_spec.specs.Bytes.{bytes, endLine}
+use Rattle.report_spec.specs.Lines.{line}
+use Rattle.report.proofs.Pieces.{pairs-pieces}
+use Rattle.report.proofs.output.put_pairs.Statement.{statement}
+use Rattle.report.proofs.output.put_pairs.Tie as tie
+use Rattle.writers.proofs.Writing.{being, _▷_}
+
+slice-aggregate-put-constant : tie.Need-slice-aggregate-put-constant
+slice-aggregate-put-constant c = search needs
+
+put-constant-requires : tie.Need-put-constant-requires
+put-constant-requires c κs = search needs
+
+put-pair-requires : tie.Need-put-pair-requires
+put-pair-requires c κs = omega (arith, c .before .before .before .put-constant .ensures .place)
+
+put-pair-requires-2 : tie.Need-put-pair-requires-2
+put-pair-requires-2 c κs = omega (arith, c .before .before .before .put-pair .ensures .place)
+
+put-pair-requires-3 : tie.Need-put-pair-requires-3
+put-pair-requires-3 c κs = omega (arith, c .before .before .before .put-pair2 .ensures .place)
+
+put-pair-requires-4 : tie.Need-put-pair-requires-4
+put-pair-requires-4 c κs = omega (arith, c .before .before .before .put-pair3 .ensures .place)
+
+put-byte-requires : tie.Need-put-byte-requires
+put-byte-requires c κs = search needs
+
+same-length : tie.Need-same-length
+same-length c = search needs
+
+returns : tie.Need-returns
+unfolding endLine line bytes
+returns c = being (rw (pairs-pieces _ (c .before .before .before .before .before .before .before .before .before .before .before .before .before .before .before .before .before .before .before .before .before .before .before .before .before .before .pre)) (simp append-assoc)) (c .before .before .before .before .before .before .before .before .before .before .before .before .before .before .before .before .before .before .before .before .before .before .put-constant .ensures ▷ c .before .before .before .before .before .before .before .before .before .before .before .before .before .before .before .before .before .before .put-pair .ensures ▷ c .before .before .before .before .before .before .before .before .before .before .before .before .before .before .put-pair2 .ensures ▷ c .before .before .before .before .before .before .before .before .before .before .put-pair3 .ensures ▷ c .before .before .before .before .before .before .put-pair4 .ensures ▷ c .before .before .put-byte .ensures)
+
+pub put-pairs-spec : {M : Type 1} → statement M
+put-pairs-spec =
+    tie.close
+    (tie.spec
+    slice-aggregate-put-constant
+    put-constant-requires
+    put-pair-requires
+    put-pair-requires-2
+    put-pair-requires-3
+    put-pair-requires-4
+    put-byte-requires
+    same-length
+    returns)

@@ -1,0 +1,61 @@
+-- `report::services::answer_report` meets its contract: the text is refused, or reported. Assumes nothing.
+use mathlib.Core.Path.{refl}
+use borrow.Author.Needs.{needs}
+use Rattle.gfa.proofs.Serving.{was-read}
+use Rattle.gfa.proofs.Totals.{readable}
+use Rattle.report.proofs.Answering.{report-refused, entered, read-loaded, ranked-writable, report-answered}
+use Rattle.report.proofs.services.answer_report.Statement.{statement}
+use Rattle.report.proofs.services.answer_report.Tie as tie
+
+parse-gfa-requires : tie.Need-parse-gfa-requires
+parse-gfa-requires c κs = search needs
+
+enum-known-input : tie.Need-enum-known-input
+enum-known-input c = search needs
+
+enum-told : tie.Need-enum-told
+enum-told c = search needs
+
+refused-with-requires : tie.Need-refused-with-requires
+refused-with-requires c κs = search needs
+
+same-length : tie.Need-same-length
+same-length c = search needs
+
+returns : tie.Need-returns
+returns c = report-refused _ (c .before .before .before .before .before .parse-gfa .ensures) (c .before .enum-told .given .1) (c .refused-with .ensures) refl
+
+totals-of-requires : tie.Need-totals-of-requires
+totals-of-requires c κs = readable (was-read (c .before .before .before .before .before .before .parse-gfa .ensures) (c .before .before .input .given .1) .tables)
+
+rank-nodes-requires : tie.Need-rank-nodes-requires
+rank-nodes-requires c κs = read-loaded (was-read (c .before .before .before .before .before .before .before .before .parse-gfa .ensures) (c .before .before .before .before .input .given .1))
+
+write-report-requires : tie.Need-write-report-requires
+write-report-requires c κs = let h = was-read (c .before .before .before .before .before .before .before .before .before .before .before .before .before .parse-gfa .ensures) (c .before .before .before .before .before .before .before .before .before .input .given .1) in ranked-writable (entered h) (read-loaded h) (c .before .before .before .before .rank-nodes .ensures)
+
+same-length-2 : tie.Need-same-length-2
+same-length-2 c = search needs
+
+same-length-3 : tie.Need-same-length-3
+same-length-3 c = search needs
+
+returns-2 : tie.Need-returns-2
+returns-2 c = report-answered (was-read (c .before .before .before .before .before .before .before .before .before .before .before .before .before .before .before .before .parse-gfa .ensures) (c .before .before .before .before .before .before .before .before .before .before .before .before .input .given .1)) _ (c .before .before .before .before .before .before .before .before .before .totals-of .ensures) (c .before .before .before .before .before .before .before .rank-nodes .ensures) (c .before .before .write-report .ensures)
+
+pub answer-report-spec : {M : Type 1} → statement M
+answer-report-spec =
+    tie.close
+    (tie.spec
+    parse-gfa-requires
+    enum-known-input
+    enum-told
+    refused-with-requires
+    same-length
+    returns
+    totals-of-requires
+    rank-nodes-requires
+    write-report-requires
+    same-length-2
+    same-length-3
+    returns-2)

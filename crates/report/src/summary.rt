@@ -1,0 +1,99 @@
+// The whole report, written at the front of `out` as far as there is room.
+ghost use mathlib.Core.Path.{_≡_};
+ghost use Prim.Native.Nat.{_+_, min};
+ghost use lib.ListN.{length};
+ghost use Rattle.gfa_spec.specs.Bytes.{ended};
+ghost use Rattle.gfa_spec.specs.Calls.{fitted};
+ghost use Rattle.gfa.specs.Served.{Answered};
+ghost use Rattle.writers.specs.Writers.{Wrote};
+ghost use Rattle.report.specs.Totals.{totalLines, reportFrom, Writable};
+use crate::buckets::put_buckets;
+use crate::output::put_nodes;
+use crate::totals::Totals;
+use gfa::input::Answer;
+use gfa::services::plain;
+use gfa::tables::Bases;
+use gfa::tables::Counts;
+use writers::pieces::put_number_line;
+
+// The first six lines.
+pub fn put_totals(out: &mut [u8], at: usize, limit: usize, t: Totals, m: usize) -> usize
+    ensures { λ r. ⌜ Wrote limit (now (out .entry)) at (ended (totalLines t m)) (now (out .exit)) r ⌝ }
+{
+    let one = put_number_line(out, at, limit, b"direct_self_loop_edges", t.links as u64);
+    let two = put_number_line(out, one, limit, b"direct_self_loop_nodes", m as u64);
+    let three = put_number_line(
+        out,
+        two,
+        limit,
+        b"adjacent_same_node_path_steps",
+        t.nodes as u64,
+    );
+    let four = put_number_line(
+        out,
+        three,
+        limit,
+        b"adjacent_same_step_path_steps",
+        t.steps as u64,
+    );
+    let five = put_number_line(out, four, limit, b"repeated_path_runs", t.runs as u64);
+    put_number_line(out, five, limit, b"max_repeat_run_len", t.longest as u64)
+}
+
+// The smaller of two numbers.
+fn least(a: usize, b: usize) -> usize
+    ensures { λ r. ⌜ r ≡ min a b ⌝ }
+{
+    if a <= b {
+        return a;
+    }
+    b
+}
+
+// The report with the first `top` of `m` nodes.
+pub fn put_report(
+    out: &mut [u8],
+    limit: usize,
+    text: &[u8],
+    work: &[u32],
+    b: Bases,
+    n: Counts,
+    t: Totals,
+    m: usize,
+    top: usize,
+) -> usize
+    requires { ⌜ Writable (now text) (now work) b n m ⌝ }
+    ensures { λ r. ⌜ Wrote limit (now (out .entry)) 0 (reportFrom (now (text .entry)) b n (now (work .entry)) m t top) (now (out .exit)) r ⌝ }
+{
+    let table = b.steps + 3 * n.steps;
+    let lengths = table + 14 * n.links;
+    let ranks = table + 15 * n.links;
+    let first = put_totals(out, 0, limit, t, m);
+    let second = put_buckets(out, first, limit, work, table, lengths, m);
+    put_nodes(out, second, limit, text, work, b, n, ranks, least(top, m))
+}
+
+// Measures the report on an empty part of the buffer, and writes it where it fits.
+pub fn write_report(
+    out: &mut [u8],
+    text: &[u8],
+    work: &[u32],
+    b: Bases,
+    n: Counts,
+    t: Totals,
+    m: usize,
+    top: usize,
+) -> Answer
+    requires { ⌜ Writable (now text) (now work) b n m ⌝ }
+    ensures { λ r. ⌜ Answered (now (out .entry)) (now (out .exit)) r
+        (fitted (length (now (out .entry))) (reportFrom (now (text .entry)) b n (now (work .entry)) m t top)) ⌝ }
+{
+    let room = out.len();
+    let limit = room + 1;
+    let need = put_report(&mut out[..0], limit, text, work, b, n, t, m, top);
+    if room < need {
+        return plain(22, 0);
+    }
+    put_report(out, limit, text, work, b, n, t, m, top);
+    plain(0, need)
+}
