@@ -19,23 +19,44 @@ use Rattle.gfa.specs.declared.tables.Added.{Added}
 use Rattle.gfa.specs.declared.tables.Added.the-variants.{Rows, Refused}
 use Rattle.gfa.specs.declared.tables.Checked.{Checked}
 use Rattle.gfa.specs.declared.tables.Checked.the-variants as checked
-use Rattle.gfa_spec.specs.Bytes.{part}
-use Rattle.gfa_spec.specs.Reading.{segment, link, path, accepted, refused, then, fields, parseLine, parseOrientation, parseS, parseL}
+use Rattle.gfa_spec.specs.Bytes.{part, sum, one, nil}
+use Rattle.gfa_spec.specs.Reading.{segment, link, path, choose, accepted, refused, then, fields, parseLine, parseOrientation, parseS, parseL}
+use Rattle.gfa_spec.specs.Records.{paths, collect}
+use Rattle.gfa_spec.specs.Runs.{overPaths, stepCount}
 use Rattle.scan.specs.Places.{partAt, FoundAt, FewFields}
 use Rattle.gfa.specs.Sorts.{SortIs, readAs}
 use Rattle.gfa.specs.Tables.{checkedOf, oneMore}
 use Rattle.gfa.specs.Segments.{segmentsAt, idsOf, FoundIs}
-use Rattle.gfa.specs.Steps.{StepsPut}
-use Rattle.gfa.specs.Paths.{kindOf, columnOf, shortOf, stepsOf}
+use Rattle.gfa.specs.Steps.{stepAt, stepsAt, StepsPut}
+use Rattle.gfa.specs.Paths.{kindOf, columnOf, shortOf, stepsOf, pathAt}
 use Rattle.gfa.specs.Entries.{wordsOf, entryOf}
 use Rattle.gfa.specs.Lines.{segsOf, linksOf, pathsOf, NewRow, Ready, Entered, AddedIs, LineRead}
 use Rattle.gfa_spec.proofs.Entries.{orientation-accepted}
 use Rattle.scan.proofs.Fields.{field-bytes}
 use Rattle.gfa.proofs.Numbers.{found-known, found-new}
-use Rattle.work.proofs.Rows.{Kept, only-none, only-put, only-then, only-wider, only-kept, kept-within, outside-less}
+use Rattle.work.proofs.Rows.{rows-length, Kept, only-none, only-put, only-then, only-wider, only-kept, kept-within, outside-less}
 use Rattle.gfa.proofs.Room.{field-short, column-short, spent-none, spent-segment, spent-link, spent-path, path-spare}
 use Rattle.gfa.proofs.StepFields.{checked-value, checked-refused, path-short, path-refused, path-accepted}
 use Rattle.gfa.proofs.TableRows.{segment-kept, segment-row-kept, link-kept, link-row-kept, steps-kept, step-row-kept, path-kept, path-row-kept, segment-put, segment-row-put, link-put, link-row-put, path-put, path-row-put, record-put, three-words}
+
+-- ---- steps of a record
+
+-- a record that is no path has no steps
+no-steps : (text work : List ℕ) (b : Bases) (r : Record) → pathsOf r ≡ 0 → stepCount (entryOf text work b r ∷ []) ≡ 0
+unfolding stepCount overPaths paths collect entryOf choose one nil sum
+no-steps text work b (Segment k) h = refl
+no-steps text work b (Link k) h = refl
+no-steps text work b (Path k) h = absurd (omega arith)
+no-steps text work b (Header l) h = refl
+no-steps text work b (Comment l) h = refl
+no-steps text work b (Blank l) h = refl
+no-steps text work b (Other l) h = refl
+
+-- a path has its row's steps
+path-steps : (text work : List ℕ) (b : Bases) (k first count : ℕ) → pathAt text (b .steps) work (b .paths + 5 * k) .steps ≡ stepsAt text work first count
+    → stepCount (entryOf text work b (Path (record { 0 = k })) ∷ []) ≡ count
+unfolding stepCount overPaths paths collect entryOf choose one nil sum stepsAt
+path-steps text work b k first count e = omega (arith, ap length e, rows-length (stepAt text) 3 work first count)
 
 -- ---- raw lines
 
@@ -52,7 +73,7 @@ module _ {text work : List ℕ} {b : Bases} {n : Counts} {start size : ℕ} (y :
               segs = omega (arith, p);
               links = omega (arith, q);
               paths = omega (arith, t);
-              steps = omega arith;
+              steps = omega (arith, no-steps text work b r t);
               row = row;
               visits = λ i l h. absurd (omega arith);
               spent = spent-none text start size n (y .inside);
@@ -119,7 +140,7 @@ module _ {text work work' : List ℕ} {b : Bases} {n : Counts} {start size : ℕ
                 segs = refl;
                 links = refl;
                 paths = refl;
-                steps = omega arith;
+                steps = omega (arith, no-steps text (sets work at row) b (Segment (record { 0 = n .segs })) refl);
                 row = (refl, segment-row-put text work at start size id wide sequence long h (y .inside) (i .inside) (f .inside));
                 visits = λ i l h. absurd (omega arith);
                 spent = spent-segment text start size n (y .inside) (omega arith) (s .letter);
@@ -201,7 +222,7 @@ module _ {text work work' : List ℕ} {b : Bases} {n : Counts} {start size : ℕ
                   segs = refl;
                   links = refl;
                   paths = refl;
-                  steps = omega arith;
+                  steps = omega (arith, no-steps text (sets work at row) b (Link (record { 0 = n .links })) refl);
                   row = (
                     refl,
                     link-row-put text work at start size from fromlong leaves to tolong enters h (r .inside) (u .inside) (t .inside)
@@ -265,7 +286,7 @@ module _ {text work work' : List ℕ} {b : Bases} {n : Counts} {start size kind 
                 segs = refl;
                 links = refl;
                 paths = refl;
-                steps = omega arith;
+                steps = omega (arith, path-steps text (sets middle at row) b (n .paths) base m (ap (λ q. q .steps) (path-put text middle at (b .steps) kind start size (n .steps) m h)));
                 row = (refl, path-row-put text middle at (n .steps + m) kind start size (n .steps) m h (y .inside) (omega arith));
                 visits = λ i l k.
                     let place : base + 3 * (i - n .steps) ≡ b .steps + 3 * i = omega (arith, l) in
@@ -345,7 +366,7 @@ module _ {text work middle : List ℕ} {b : Bases} {n : Counts} {start size : �
               segs = e .segs;
               links = e .links;
               paths = e .paths;
-              steps = e .steps;
+              steps = e .steps ∙ ap (λ x. n .steps + stepCount (x ∷ [])) (sym (kept .0));
               row = kept .1;
               visits = λ i l k. step-row-kept high text (b .steps + 3 * i) (omega (arith, y .between, y .beyond, y .behind)) (omega (arith, k, room)) (e .visits i l k);
               spent = e .spent;

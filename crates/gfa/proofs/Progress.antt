@@ -13,9 +13,10 @@ use Rattle.gfa.specs.declared.tables.Counts.{Counts}
 use Rattle.gfa.specs.declared.tables.Added.{Added}
 use Rattle.gfa.specs.declared.tables.Added.the-variants.{Rows, Refused}
 use Rattle.gfa.specs.declared.reading.Outcome.the-variants as outcome
-use Rattle.gfa_spec.specs.Bytes.{one, nil}
+use Rattle.gfa_spec.specs.Bytes.{one, nil, sum}
 use Rattle.gfa_spec.specs.Reading.{Entry, choose, lines, parse, parseLines}
 use Rattle.gfa_spec.specs.Records.{segments, links, paths, collect}
+use Rattle.gfa_spec.specs.Runs.{overPaths, stepCount}
 use Rattle.scan.specs.Places.{linesAt, partAt, LineIs}
 use Rattle.work.specs.Rows.{rowsAt, EachRow, Only}
 use Rattle.gfa.specs.Tables.{Few, noRows}
@@ -30,6 +31,7 @@ use Rattle.gfa.proofs.Following.{follow, follow-none, follow-snoc, foll
 use Rattle.scan.proofs.LineEnds.{no-lines-at, all-lines}
 use Rattle.gfa.proofs.Room.{lines-sum, weight-text, tables-fit}
 use Rattle.work.proofs.Rows.{only-none, only-then, outside-less, rows-snoc, each-more, each-none}
+use Rattle.gfa_spec.proofs.Runs.{steps-append}
 use Rattle.gfa_spec.proofs.Sorts.{append-sorted}
 use Rattle.gfa.proofs.Standing.{RowsKept, rows-behind, entries-kept}
 use Rattle.gfa.proofs.TableRows.{segments-kept, segment-rows-kept, links-kept, link-rows-kept, step-row-kept, paths-kept, path-row-kept, record-kept}
@@ -152,7 +154,7 @@ module _ {text work work' : List ℕ} {b : Bases} {n m : Counts} {start size : �
               links = brought-each 8 (b .links) (n .links) (m .links) links (z .links) (link-rows-kept (t .links) text (b .links) (n .links) (omega arith) (omega arith) (s .links));
               paths =
                   brought-each 5 (b .paths) (n .paths) (m .paths) paths (z .paths)
-                  (record { row = λ i h. path-row-kept (t .paths) text (b .paths + 5 * i) (omega arith) (omega arith) (z .steps) (s .paths .row i h) });
+                  (record { row = λ i h. path-row-kept (t .paths) text (b .paths + 5 * i) (omega arith) (omega arith) (omega (arith, z .steps)) (s .paths .row i h) });
               steps = record { row = λ i h. step-row i h (decLt i (n .steps)) };
             };
       }
@@ -176,13 +178,14 @@ pub record Progress (text first work : List ℕ) (b : Bases) (at : ℕ) (n : Cou
   pub of-segments : segments (entriesAt text work b (n .lines)) ≡ segmentsAt text work (b .segs) (n .segs)
   pub of-links : links (entriesAt text work b (n .lines)) ≡ linksAt text work (b .links) (n .links)
   pub of-paths : paths (entriesAt text work b (n .lines)) ≡ pathsAt text (b .steps) work (b .paths) (n .paths)
+  pub visits : stepCount (entriesAt text work b (n .lines)) ≡ n .steps
   pub sound : Sound text work b n
   pub long : length work ≡ length first
   pub only : Only (rowsOf b noRows n) first work
 
 module _ {text first : List ℕ} {b : Bases} where
   pub progress-start : Roomy text first b → Progress text first first b 0 noRows
-  unfolding parse entriesAt segmentsAt linksAt pathsAt rowsAt segments links paths collect idsOf
+  unfolding parse entriesAt segmentsAt linksAt pathsAt rowsAt segments links paths collect idsOf stepCount overPaths sum
   progress-start h =
       let e = all-lines text in
       record {
@@ -197,6 +200,7 @@ module _ {text first : List ℕ} {b : Bases} where
         of-segments = refl;
         of-links = refl;
         of-paths = refl;
+        visits = refl;
         sound = record { lines = each-none; segs = each-none; links = each-none; paths = each-none; steps = each-none };
         long = refl;
         only = only-none;
@@ -228,6 +232,7 @@ module _ {text first : List ℕ} {b : Bases} where
                       of-segments = p .of-segments;
                       of-links = p .of-links;
                       of-paths = p .of-paths;
+                      visits = p .visits;
                       laid = progress-laid;
                       few = progress-few;
                       sound = p .sound;
@@ -298,6 +303,7 @@ module _ {text first : List ℕ} {b : Bases} where
               of-segments = rw (g .entries, new .of-segments, p .of-segments) (sym (g .of-segments));
               of-links = rw (g .entries, new .of-links, p .of-links) (sym (g .of-links));
               of-paths = rw (g .entries, new .of-paths, p .of-paths) (sym (g .of-paths));
+              visits = rw (g .entries, steps-append) (omega (arith, p .visits, z .steps));
               sound = g .sound;
               long = z .long ∙ p .long;
               only =

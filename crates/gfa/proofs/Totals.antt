@@ -11,7 +11,7 @@ use Rattle.gfa.specs.declared.counts.Pairs.{Pairs}
 use Rattle.gfa_spec.specs.Bytes.{sum, count}
 use Rattle.gfa_spec.specs.Reading.{Step, Path, Link}
 use Rattle.gfa_spec.specs.Records.{isSelfLink, selfLinks, links, paths}
-use Rattle.gfa_spec.specs.Runs.{bit, pairs, sameNode, sameStep, overPaths, sameNodePairs, sameStepPairs, stepCount}
+use Rattle.gfa_spec.specs.Runs.{bit, pairs, sameNode, sameStep, overPaths, sameNodePairs, sameStepPairs}
 use Rattle.work.specs.Rows.{rowsAt, EachRow}
 use Rattle.work.proofs.Rows.{rows-length}
 use Rattle.gfa.specs.Links.{linkAt, linksAt}
@@ -19,7 +19,7 @@ use Rattle.gfa.specs.Steps.{stepAt, stepsAt, StepRow}
 use Rattle.gfa.specs.Paths.{pathAt, pathsAt}
 use Rattle.gfa.specs.Entries.{entriesAt}
 use Rattle.gfa.specs.Lines.{Tables}
-use Rattle.gfa.specs.Passes.{Readable, StepThere, LinkThere, PairsIs, overRows, PairTotals, StepTotal}
+use Rattle.gfa.specs.Passes.{Readable, StepThere, LinkThere, PairsIs, overRows, PairTotals}
 use Rattle.work.proofs.RowCuts.{rows-all, rows-cons, rows-none, each-part}
 use Rattle.gfa.proofs.RunEnds.{step-there}
 
@@ -212,11 +212,6 @@ module _ {text before work : List ℕ} {b : Bases} {n : Counts} (t : Tables text
   pub pairs-of-entries : {r : Pairs} → PairTotals text work b n r → (r .nodes ≡ sameNodePairs (entriesAt text work b (n .lines))) × (r .steps ≡ sameStepPairs (entriesAt text work b (n .lines)))
   unfolding sameNodePairs sameStepPairs
   pairs-of-entries h = (h .nodes ∙ over-entries (pairs sameNode), h .steps ∙ over-entries (pairs sameStep))
-
-  -- steps of all paths
-  pub steps-of-entries : {r : ℕ} → StepTotal work b n r → r ≡ stepCount (entriesAt text work b (n .lines))
-  unfolding stepCount
-  steps-of-entries h = h .steps text ∙ over-entries length
 
   -- links with equal ends
   pub self-links-of-entries : {r : ℕ} → r ≡ count isSelfLink (linksAt text work (b .links) (n .links)) → r ≡ selfLinks (entriesAt text work b (n .lines))

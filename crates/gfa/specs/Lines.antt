@@ -13,6 +13,7 @@ use Rattle.gfa.specs.declared.reading.Outcome.the-variants as outcome
 use Rattle.gfa_spec.specs.Bytes.{part}
 use Rattle.gfa_spec.specs.Reading.{refused, accepted, lines, parseLine, refusedAt, parsed, parse}
 use Rattle.gfa_spec.specs.Records.{segments, links, paths}
+use Rattle.gfa_spec.specs.Runs.{stepCount}
 use Rattle.scan.specs.Places.{partAt}
 use Rattle.work.specs.Rows.{EachRow, Range, span, Only}
 use Rattle.gfa.specs.Tables.{Few, noRows}
@@ -56,6 +57,8 @@ pub record Tables (text before work : List ℕ) (b : Bases) (n : Counts) : Type 
   pub of-segments : segments (entriesAt text work b (n .lines)) ≡ segmentsAt text work (b .segs) (n .segs)
   pub of-links : links (entriesAt text work b (n .lines)) ≡ linksAt text work (b .links) (n .links)
   pub of-paths : paths (entriesAt text work b (n .lines)) ≡ pathsAt text (b .steps) work (b .paths) (n .paths)
+  -- the steps of all paths are the rows of the step table
+  pub visits : stepCount (entriesAt text work b (n .lines)) ≡ n .steps
   pub laid : Laid b n (length work)
   pub few : Few n
   pub sound : Sound text work b n
@@ -110,7 +113,7 @@ pub record Entered (text work work' : List ℕ) (b : Bases) (n : Counts) (start 
   pub segs : m .segs ≡ n .segs + segsOf r
   pub links : m .links ≡ n .links + linksOf r
   pub paths : m .paths ≡ n .paths + pathsOf r
-  pub steps : n .steps ≤ m .steps
+  pub steps : m .steps ≡ n .steps + stepCount (entryOf text work' b r ∷ [])
   pub row : NewRow text work' b n m r
   pub visits : (i : ℕ) → n .steps ≤ i → i < m .steps → StepRow text work' (b .steps + 3 * i)
   pub spent : Spent (part start size text) n m

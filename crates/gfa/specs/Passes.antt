@@ -57,7 +57,3 @@ overRows f text work b n = sum (map (λ p. f (p .steps)) (pathsAt text (b .steps
 pub record PairTotals (text work : List ℕ) (b : Bases) (n : Counts) (r : Pairs) : Type 0 where
   pub nodes : r .nodes ≡ overRows (pairs sameNode) text work b n
   pub steps : r .steps ≡ overRows (pairs sameStep) text work b n
-
--- The steps of all paths; it takes no text to count them.
-pub record StepTotal (work : List ℕ) (b : Bases) (n : Counts) (r : ℕ) : Type 0 where
-  pub steps : (text : List ℕ) → r ≡ overRows length text work b n

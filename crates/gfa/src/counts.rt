@@ -8,7 +8,7 @@ ghost use Rattle.gfa_spec.specs.Runs.{bit};
 ghost use Rattle.work.specs.Rows.{EachRow};
 ghost use Rattle.gfa.specs.Links.{linkAt, linksAt};
 ghost use Rattle.gfa.specs.Steps.{StepRow};
-ghost use Rattle.gfa.specs.Passes.{Readable, PairsIs, PairTotals, StepTotal, LinkThere};
+ghost use Rattle.gfa.specs.Passes.{Readable, PairsIs, PairTotals, LinkThere};
 use crate::runs::same_node;
 use crate::runs::same_step;
 use crate::tables::Bases;
@@ -68,21 +68,6 @@ pub fn all_pairs(text: &[u8], work: &[u32], b: Bases, n: Counts) -> Pairs
         i += 1;
     }
     Pairs { nodes, steps }
-}
-
-// The steps of all paths.
-pub fn step_count(work: &[u32], b: Bases, n: Counts) -> usize
-    requires { ⌜ (b .paths + 5 * n .paths ≤ length (now work)) × (n .paths ≤ 2097152) ⌝ }
-    ensures { λ r. ⌜ StepTotal (now (work .entry)) b n r ⌝ }
-{
-    let mut total = 0;
-    let mut i = 0;
-    while i < n.paths {
-        let at = b.paths + 5 * i + 4;
-        total += work[at] as usize;
-        i += 1;
-    }
-    total
 }
 
 // Has the link whose row is at the word `at` equal ends?

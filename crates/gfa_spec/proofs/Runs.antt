@@ -8,10 +8,12 @@ use lib.Dec.{eqb}
 use lib.ListN.{length}
 use borrow.Author.Tests.{eqb-true, eq-eqb}
 use Rattle.gfa_spec.specs.Bytes.{same, sum}
-use Rattle.gfa_spec.specs.Reading.{Step}
-use Rattle.gfa_spec.specs.Runs.{Run, runs, extend, sameNode, sameStep, pairs, bit}
+use Rattle.gfa_spec.specs.Reading.{Step, Entry}
+use Rattle.gfa_spec.specs.Records.{paths}
+use Rattle.gfa_spec.specs.Runs.{Run, runs, extend, sameNode, sameStep, pairs, bit, overPaths, stepCount}
 use Rattle.gfa_spec.proofs.Tests.{by-test, and-left, and-right, and-both, same-equal, equal-same}
 use Rattle.gfa_spec.proofs.Each.{Each, each-implies}
+use Rattle.gfa_spec.proofs.Sorts.{append-sorted}
 
 -- ---- equal steps
 
@@ -142,3 +144,16 @@ runs-cut s (x ∷ xs) ys h d =
     differs : (ys : List Step) → Differs s ys → Differs x ys
     differs [] d = tt
     differs (t ∷ ys) d = sym (same-as s x t (h .0)) ∙ d
+
+-- ---- sums over paths
+
+-- a sum over two lists in a row
+pub sum-append : {A : Type 0} (f : A → ℕ) (xs ys : List A) → sum (map f (xs ++ ys)) ≡ sum (map f xs) + sum (map f ys)
+unfolding sum
+sum-append f [] ys = omega arith
+sum-append f (x ∷ xs) ys = omega (arith, sum-append f xs ys)
+
+-- the steps of two lists of entries in a row
+pub steps-append : (es fs : List Entry) → stepCount (es ++ fs) ≡ stepCount es + stepCount fs
+unfolding stepCount overPaths
+steps-append es fs = rw (append-sorted es fs .of-paths) (sum-append (λ p. length (p .steps)) (paths es) (paths fs))

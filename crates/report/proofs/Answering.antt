@@ -10,7 +10,8 @@ use Rattle.gfa_spec.specs.Bytes.{join, ended}
 use Rattle.report_spec.specs.Lines.{nodeLines}
 use Rattle.gfa_spec.specs.Calls.{plainly, fitted}
 use Rattle.gfa_spec.specs.Reading.{Entry}
-use Rattle.gfa_spec.specs.Records.{paths, segmentNumber}
+use Rattle.gfa_spec.specs.Records.{segmentNumber}
+use Rattle.gfa_spec.specs.Runs.{stepCount}
 use Rattle.gfa_spec.proofs.Admission.{input-entries}
 use Rattle.gfa_spec.proofs.Answered.{answer-fitted, refused-fitted}
 use Rattle.work.proofs.Rows.{rows-length}
@@ -27,6 +28,7 @@ use Rattle.gfa.specs.Inputs.{stated, InputRead, InputIs}
 use Rattle.gfa.specs.Passes.{overRows}
 use Rattle.gfa.specs.Served.{Answered, refusedWith}
 use Rattle.gfa.proofs.Serving.{refuses, gives}
+use Rattle.gfa.proofs.Totals.{over-entries}
 use Rattle.writers.specs.Writers.{Wrote}
 use Rattle.writers.proofs.Writing.{being, _▷_, measured, measured-long, written}
 use Rattle.report_spec.specs.Nodes.{nodes, nodeOf}
@@ -41,7 +43,6 @@ use Rattle.report.specs.Totals.{lengthsOf, ranksOf, Ranked, TotalsIs, to
 use Rattle.report.proofs.Sorting.{sort-each}
 use Rattle.report.proofs.Pairs.{bits-small}
 use Rattle.report.proofs.Linking.{links-few}
-use Rattle.report.proofs.StepBounds.{stepsIn, text-few}
 use Rattle.report.proofs.Merges.{nums-below}
 use Rattle.report.proofs.Lengths.{sorted-rising}
 use Rattle.report.proofs.Ordering.{each-up}
@@ -146,15 +147,12 @@ module _ {text before w : List ℕ} {b : Bases} {n : Counts} (h : InputRead text
         laid = h .tables .laid;
         few = h .tables .few;
         short = a .short;
-        visits = steps (a .short) (text-few text (entriesAt text w b (n .lines)) (a .reads));
+        visits = over-entries (h .tables) length ∙ (unfold stepCount in h .tables .visits);
         segs = s .segs;
         links = s .links;
         paths = s .paths;
         steps = s .steps;
       }
-    where
-      steps : length text ≤ 1048576 → stepsIn (paths (entriesAt text w b (n .lines))) ≤ suc (length text) → overRows length text w b n ≤ 1048577
-      steps l q = unfold overRows stepsIn in omega (arith, rw (h .tables .of-paths) at q)
 
   -- the report is answered
   pub report-answered : {w' out out' : List ℕ} {m : ℕ} {t : Totals} {a : Answer} (top : ℕ) → TotalsIs text w b n t → Ranked text w w' b n m →

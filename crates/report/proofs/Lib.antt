@@ -9,7 +9,6 @@ pub mod Segments
 pub mod Names
 pub mod NodeRows
 pub mod Linking
-pub mod StepBounds
 pub mod Visiting
 pub mod Passing
 pub mod Merges

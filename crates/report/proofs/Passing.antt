@@ -2,11 +2,13 @@
 use Prim.Native.Nat.{ℕ, _+_, _*_, _-_, _≤_, _<_}
 use native.Mathlib.Numerals.{add-one}
 use native.Mathlib.Omega.{arith}
-use mathlib.Core.List.{List, [], _∷_, _++_}
+use mathlib.Core.List.{List, [], _∷_, _++_, map}
 use mathlib.Core.Path.{_≡_, sym, ap, subst, _∙_}
 use lib.ListN.{length, getD}
 use Rattle.gfa_spec.specs.Bytes.{sum, count, join}
+use Rattle.gfa_spec.specs.Reading.{Path}
 use Rattle.gfa_spec.specs.Runs.{runs}
+use Rattle.gfa_spec.proofs.Runs.{sum-append}
 use Rattle.work.specs.Rows.{rowsAt, EachRow}
 use Rattle.work.proofs.Rows.{Kept, kept-within, rows-snoc, rows-length}
 use Rattle.gfa.specs.declared.tables.Bases.{Bases}
@@ -25,7 +27,6 @@ use Rattle.report.specs.Visits.{FitRow, Countable, Recounted, NextCounte
 use Rattle.report.proofs.PathCounting.{counted-path}
 use Rattle.report.proofs.NodeRows.{each-to}
 use Rattle.report.proofs.Linking.{loaded-kept}
-use Rattle.report.proofs.StepBounds.{stepsIn, steps-append}
 use Rattle.report.proofs.Visiting.{fits-less, recounted-none, recounted-then, below, name-fixed, countable-kept}
 
 -- ---- the runs of a path
@@ -106,6 +107,15 @@ module _ {text first : List ℕ} {base count table m path : ℕ} where
 
 -- ---- the paths
 
+-- the steps of paths
+unfoldable pub stepsIn : List Path → ℕ
+stepsIn ps = sum (map (λ p. length (p .steps)) ps)
+
+-- of one list behind another
+steps-append : (xs ys : List Path) → stepsIn (xs ++ ys) ≡ stepsIn xs + stepsIn ys
+unfolding stepsIn
+steps-append xs ys = sum-append (λ p. length (p .steps)) xs ys
+
 -- The state at path p: the paths before it are counted.
 pub record Passing (text first work : List ℕ) (b : Bases) (n : Counts) (m p : ℕ) : Type 0 where
   pub loaded : Loaded text first b n
@@ -116,7 +126,7 @@ pub record Passing (text first work : List ℕ) (b : Bases) (n : Counts) (m p : 
   pub frame : Recounted first work (tableOf b n) m
 
 -- counters of no path fit
-none-fits : {node : List ℕ} {c : Counter} {left : ℕ} → left ≤ 1048577 → Counted node [] c → Fits left 0 c
+none-fits : {node : List ℕ} {c : Counter} {left : ℕ} → left ≤ 2097152 → Counted node [] c → Fits left 0 c
 unfolding total sum count join longest
 none-fits h r = record { visits = omega (arith, r .visits); paths = omega (arith, r .paths); adjacent = omega (arith, r .adjacent); equal = omega (arith, r .equal); runs = omega (arith, r .runs); longest = omega (arith, r .longest); first = omega (arith, r .known) }
 
@@ -129,7 +139,7 @@ module _ {text first : List ℕ} {b : Bases} {n : Counts} {m : ℕ} where
         countable = c;
         high = omega arith;
         rows = e;
-        fits = each-to e (λ j h r. record { fits = none-fits (omega (arith, l .visits)) (r .counts) });
+        fits = each-to e (λ j h r. record { fits = none-fits (omega (arith, l .visits, l .few)) (r .counts) });
         frame = recounted-none;
       }
 

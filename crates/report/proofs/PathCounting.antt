@@ -17,6 +17,7 @@ use Rattle.gfa_spec.proofs.Tests.{by-test, any-append}
 use Rattle.gfa_spec.proofs.Each.{Each, each-always, each-implies, each-append, each-keep, each-join, each-map}
 use Rattle.writers.proofs.Joining.{join-last}
 use Rattle.report_spec.specs.Nodes.{on, visits, repeats, repeatsAt, longest, pathName, firstWith, total}
+use Rattle.gfa_spec.proofs.Runs.{sum-append}
 use Rattle.report.specs.declared.counters.Counter.{Counter}
 use Rattle.report.specs.Counters.{noCounter, finish, named, Counted}
 use Rattle.report.proofs.Counting.{repeatsOn, finished, summed}
@@ -25,8 +26,7 @@ use Rattle.report.proofs.Counting.{repeatsOn, finished, summed}
 
 pub sum-last : {A : Type 0} (f : A → ℕ) (xs : List A) (x : A) → sum (map f (xs ++ (x ∷ []))) ≡ sum (map f xs) + f x
 unfolding sum
-sum-last f [] x = omega arith
-sum-last f (y ∷ ys) x = omega (arith, sum-last f ys x)
+sum-last f xs x = omega (arith, sum-append f xs (x ∷ []))
 
 pub total-last : (f : Path → ℕ) (ps : List Path) (p : Path) → total f (ps ++ (p ∷ [])) ≡ total f ps + f p
 unfolding total

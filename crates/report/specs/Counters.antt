@@ -41,7 +41,7 @@ counterWords c = c .visits ∷ c .paths ∷ c .last ∷ c .adjacent ∷ c .equal
 
 -- The counters are no larger than they may be while so many steps of a path of this number are left.
 pub record Fits (left path : ℕ) (c : Counter) : Type 0 where
-  pub visits : c .visits + left ≤ 1048577
+  pub visits : c .visits + left ≤ 2097152
   pub paths : c .paths ≤ c .visits
   pub adjacent : c .adjacent ≤ c .visits
   pub equal : c .equal ≤ c .visits

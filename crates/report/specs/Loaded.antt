@@ -27,7 +27,7 @@ pub record Loaded (text work : List ℕ) (b : Bases) (n : Counts) : Type 0 where
   pub laid : Laid b n (length work)
   pub few : Few n
   pub short : length text ≤ 1048576
-  pub visits : overRows length text work b n ≤ 1048577
+  pub visits : overRows length text work b n ≡ n .steps
   pub segs : EachRow (SegmentRow text) 6 work (b .segs) (n .segs)
   pub links : EachRow (LinkRow text) 8 work (b .links) (n .links)
   pub paths : EachRow (PathRow text (n .steps)) 5 work (b .paths) (n .paths)
