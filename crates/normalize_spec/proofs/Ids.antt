@@ -1,5 +1,6 @@
 -- A new ID is none that is taken, and is made of plain bytes. Assumes nothing.
-use Prim.Native.Nat.{ℕ, zero, suc, _≤_, _<_, max}
+use Prim.Native.Nat.{ℕ, zero, suc, _+_, _≤_, _<_, max}
+use native.Mathlib.Nat.{add-zero, add-suc, suc-add}
 use native.Mathlib.Omega.{arith}
 use mathlib.Core.Bool.{Bool, true, false, not, _&&_, _||_, false≢true}
 use mathlib.Core.List.{List, [], _∷_, _++_, map, append-cancel-left, tail-eq-of-cons-eq}
@@ -11,7 +12,7 @@ use borrow.Author.Tests.{ltb-true, lt-ltb, not-true}
 use Rattle.gfa_spec.specs.Bytes.{bytes, same, isEmpty, any, all, keep}
 use Rattle.gfa_spec.specs.Decimal.{decimal, isDigit, largest64, numberOf}
 use Rattle.gfa_spec.specs.Reading.{Segment}
-use Rattle.gfa_spec.proofs.Tests.{by-test, and-left, and-right, and-both, refute, same-refl, same-equal, all-append, all-implies, all-in}
+use Rattle.gfa_spec.proofs.Tests.{by-test, clash, and-left, and-right, and-both, refute, same-refl, same-equal, all-append, all-implies, all-in}
 use Rattle.gfa_spec.proofs.Decimal.{decimal-injective, decimal-digits, decimal-some, number-decimal}
 use Rattle.normalize_spec.specs.Folding.{largestId, usable, isPlain, sanitized, baseName, suffixed, freeName, newId, nextAfter}
 
@@ -54,24 +55,39 @@ without-other x z (y ∷ ys) d h =
     (λ e. rw (← (same-equal z y e), d, same-refl z))
     (λ e. by-test (same x y) (λ f. rw f (without-other x z ys d (rw e at h))) (λ f. rw (f, e) (without-other x z ys d (rw e at h))))
 
--- more candidates than taken names: one is free. `left` has the taken names among them.
-suffixed-free : (fuel : ℕ) (taken left : List (List ℕ)) (base : List ℕ) (k : ℕ) → length left < fuel
-    → ((j : ℕ) → k ≤ j → any (same (candidate base j)) taken ≡ true → any (same (candidate base j)) left ≡ true)
-    → any (same (suffixed fuel taken base k)) taken ≡ false
+-- different strings that all stand in a list are no more than it has
+pub pigeonhole : (f : ℕ → List ℕ) → ((i j : ℕ) → f i ≡ f j → i ≡ j) → (s : ℕ) (xs : List (List ℕ)) → ((j : ℕ) → j < s → any (same (f j)) xs ≡ true)
+    → s ≤ length xs
+pigeonhole f inj zero xs h = omega arith
+pigeonhole f inj (suc s) xs h =
+    let less = without-less (f s) xs (h s (omega arith)) in
+    let more = pigeonhole f inj s (without (f s) xs) (λ j l. without-other (f s) (f j) xs (refute (same (f s) (f j)) (λ q. omega (arith, inj s j (same-equal (f s) (f j) q)))) (h j (omega arith))) in
+    omega arith
+
+-- if the name that is found is taken, so is every name that was tried
+suffixed-taken : (fuel : ℕ) (taken : List (List ℕ)) (base : List ℕ) (k : ℕ) → any (same (suffixed fuel taken base k)) taken ≡ true
+    → (j : ℕ) → j < fuel → any (same (candidate base (k + j))) taken ≡ true
 unfolding suffixed candidate
-suffixed-free zero taken left base k h f = absurd (omega arith)
-suffixed-free (suc fuel) taken left base k h f =
-    by-test (any (same (candidate base k)) taken)
-    (λ e. rw (e, suffixed) (suffixed-free fuel taken (without (candidate base k) left) base (suc k) (omega (arith, without-less (candidate base k) left (f k (omega arith) e)))
-    (λ j l i. without-other (candidate base k) (candidate base j) left (refute (same (candidate base k) (candidate base j)) (λ q. omega (arith, candidate-injective base k j (same-equal (candidate base k) (candidate base j) q)))) (f j (omega arith) i))))
-    (λ e. rw (e, suffixed) e)
+suffixed-taken zero taken base k h j l = absurd (omega arith)
+suffixed-taken (suc fuel) taken base k h j l =
+    by-test (any (same (candidate base k)) taken) (λ e. go j e (suffixed-taken fuel taken base (suc k) (rw (e, suffixed) at h)) l) (λ e. clash (rw (e, suffixed) at h) e)
+  where
+    go : (j : ℕ) → any (same (candidate base k)) taken ≡ true → ((i : ℕ) → i < fuel → any (same (candidate base (suc k + i))) taken ≡ true) → j < suc fuel
+        → any (same (candidate base (k + j))) taken ≡ true
+    go zero e more l = rw add-zero e
+    go (suc i) e more l = rw (add-suc, ← suc-add) (more i (omega arith))
 
 -- a name with the first free suffix is not taken
 pub freeName-free : (taken : List (List ℕ)) (base : List ℕ) → any (same (freeName taken base)) taken ≡ false
 unfolding freeName
 freeName-free taken base =
     by-test (any (same base) taken)
-    (λ e. rw e (suffixed-free (suc (length taken)) taken taken base 1 (omega arith) (λ j l i. i)))
+    (λ e. rw e (refute (any (same (suffixed (suc (length taken)) taken base 1)) taken)
+    (λ h. omega (
+      arith,
+      pigeonhole (λ j. candidate base (1 + j)) (λ i j q. omega (arith, candidate-injective base (1 + i) (1 + j) q)) (suc (length taken)) taken
+          (suffixed-taken (suc (length taken)) taken base 1 h),
+    ))))
     (λ e. rw e e)
 
 -- ---- numbers

@@ -22,5 +22,6 @@ pub mod ServiceRefusals
 pub mod Marks
 pub mod Onward
 pub mod NewNames
+pub mod FreeNames
 pub mod Computing
 pub mod Examples

@@ -11,6 +11,7 @@ use Rattle.gfa_spec.specs.Decimal.{decimal, isDigit}
 use Rattle.gfa_spec.proofs.Tests.{all-append, all-cons, cons-all, all-implies}
 use Rattle.gfa_spec.proofs.Decimal.{decimal-injective, decimal-digits}
 use Rattle.normalize_spec.specs.Folding.{sanitized, baseName}
+use Rattle.normalize_spec.specs.NewNames.{suffix, newName, nameTail}
 
 -- ---- a front of bytes that pass a test
 
@@ -44,15 +45,6 @@ module _ (p : ℕ → Bool) where
   all-reverse (x ∷ l) h = rw (reverse-cons x l, all-append, all-reverse l (all-cons p x l h .1)) (cons-all p x [] (all-cons p x l h .0) (unfold all in refl))
 
 -- ---- names
-
--- nothing, or `_` and a number from 1 on (rule 5)
-unfoldable pub suffix : ℕ → List ℕ
-suffix zero = []
-suffix (suc k) = 95 ∷ decimal (suc k)
-
--- the name of a unit and a run length, with a suffix
-unfoldable pub newName : List ℕ → ℕ → ℕ → List ℕ
-newName unit count k = baseName unit count ++ suffix k
 
 -- what stands behind `_selfloop_run`
 tailOf : ℕ → ℕ → List ℕ
@@ -107,13 +99,14 @@ word-stops x = refl
 name-reversed : (x t : List ℕ) → reverse (x ++ (word ++ t)) ≡ reverse t ++ (reverse word ++ reverse x)
 name-reversed x t = rw (reverse-append, reverse-append, append-assoc)
 
--- a name by its three parts
-name-parts : (unit : List ℕ) (count k : ℕ) → newName unit count k ≡ sanitized unit ++ (word ++ tailOf count k)
-unfolding newName baseName tailOf word
+-- a name by the unit's and what stands behind it
+pub name-parts : (unit : List ℕ) (count k : ℕ) → newName unit count k ≡ sanitized unit ++ nameTail count k
+unfolding newName baseName nameTail
 name-parts unit count k = rw (append-assoc, append-assoc)
 
 -- Equal names of new segments are of equal sanitized units, run lengths and suffixes.
 pub name-same : (u v : List ℕ) (c d k l : ℕ) → newName u c k ≡ newName v d l → (sanitized u ≡ sanitized v) × (c ≡ d) × (k ≡ l)
+unfolding nameTail tailOf word
 name-same u v c d k l e =
     let back = sym (name-reversed (sanitized u) (tailOf c k)) ∙ ap reverse (sym (name-parts u c k) ∙ e ∙ name-parts v d l) ∙ name-reversed (sanitized v) (tailOf d l) in
     let (tails, rest) =

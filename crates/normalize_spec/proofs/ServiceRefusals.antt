@@ -1,8 +1,9 @@
 -- Each refusal of a normalization comes under its condition and only there, and 20 never comes. Assumes nothing.
-use Prim.Native.Nat.{ℕ, _<_}
+use Prim.Native.Nat.{ℕ, _<_, _≤_}
 use native.Mathlib.Omega.{arith}
 use mathlib.Core.Bool.{false}
 use mathlib.Core.List.{List}
+use mathlib.Core.Logic.{_⊎_, inl, inr}
 use mathlib.Core.Option.{Option, none, some}
 use mathlib.Core.Path.{_≡_, refl, sym, _∙_}
 use borrow.Author.Tests.{ltb-true, lt-ltb}
@@ -75,34 +76,40 @@ refused-normalize text cap room work (bad-input h) = rw (refused-input text work
 refused-normalize text cap room work (bad-step es a some-folded b) = rw (entries-input text work es a, some-folded, b)
 refused-normalize text cap room work (no-room es output st a answer less) = rw (entries-input text work es a, answer-entries text cap es output st answer, lt-ltb room (length output) less)
 
--- ---- 18 and 19
+-- ---- the numbers of refusals
 
--- ---- 20 never comes
-
--- an answer, or a refusal by another number
-abbrev Not20 : Normal → Type 0
-Not20 (Normal.refusal r) = r .number ≡ 20 → ⊥
-Not20 (normal output st) = Unit {0}
+-- an answer, or a refusal by one of 1 to 19 or by 22
+abbrev Numbered : Normal → Type 0
+Numbered (Normal.refusal r) = (1 ≤ r .number) × ((r .number ≤ 19) ⊎ (r .number ≡ 22))
+Numbered (normal output st) = Unit {0}
 
 -- a folding
-fold-not20 : (es : List Entry) (cap : ℕ) (o : Option Refusal) → badStep es (paths es) ≡ o → Not20 (fold es cap o)
+fold-numbered : (es : List Entry) (cap : ℕ) (o : Option Refusal) → badStep es (paths es) ≡ o → Numbered (fold es cap o)
 unfolding fold
-fold-not20 es cap (some r) b = λ e. let h = badStep-numbered es (paths es) r b in omega arith
-fold-not20 es cap none b = rw (spelling-unchanged es cap b) tt
+fold-numbered es cap (some r) b = let h = badStep-numbered es (paths es) r b in (omega arith, inl (h .1))
+fold-numbered es cap none b = rw (spelling-unchanged es cap b) tt
 
 -- a call
-entries-not20 : (text : List ℕ) (cap : ℕ) (i : Input) → NumberedInput i → Not20 (normalizeEntries text cap i)
+entries-numbered : (text : List ℕ) (cap : ℕ) (i : Input) → NumberedInput i → Numbered (normalizeEntries text cap i)
 unfolding normalizeEntries
-entries-not20 text cap (Input.refusal r) h = λ e. omega arith
-entries-not20 text cap (entries es) h = by-test (isEmpty (folded es cap)) (λ e. rw e tt) (λ e. rw e (fold-not20 es cap (badStep es (paths es)) refl))
+entries-numbered text cap (Input.refusal r) h = (omega arith, inl (omega arith))
+entries-numbered text cap (entries es) h = by-test (isEmpty (folded es cap)) (λ e. rw e tt) (λ e. rw e (fold-numbered es cap (badStep es (paths es)) refl))
 
 -- the room for the answer
-fitted-not20 : (room : ℕ) (n : Normal) → Not20 n → Not20 (fitted room n)
+fitted-numbered : (room : ℕ) (n : Normal) → Numbered n → Numbered (fitted room n)
 unfolding fitted plainly
-fitted-not20 room (Normal.refusal r) h = h
-fitted-not20 room (normal output st) h = by-test (ltb room (length output)) (λ e. rw e (λ q. omega arith)) (λ e. rw e tt)
+fitted-numbered room (Normal.refusal r) h = h
+fitted-numbered room (normal output st) h = by-test (ltb room (length output)) (λ e. rw e (omega arith, inr refl)) (λ e. rw e tt)
 
--- no normalization is refused by 20
-pub never-20 : (text : List ℕ) (cap room work : ℕ) (r : Refusal) → normalize text cap room work ≡ Normal.refusal r → r .number ≡ 20 → ⊥
+-- a normalization is refused by one of 1 to 19, or by 22
+pub normalize-numbers : (text : List ℕ) (cap room work : ℕ) (r : Refusal) → normalize text cap room work ≡ Normal.refusal r → (1 ≤ r .number) × ((r .number ≤ 19) ⊎ (r .number ≡ 22))
 unfolding normalize
-never-20 text cap room work r e = rw e at (fitted-not20 room (normalizeEntries text cap (input text work)) (entries-not20 text cap (input text work) (input-numbered text work)))
+normalize-numbers text cap room work r e = rw e at (fitted-numbered room (normalizeEntries text cap (input text work)) (entries-numbered text cap (input text work) (input-numbered text work)))
+
+-- so none is refused by 20
+pub never-20 : (text : List ℕ) (cap room work : ℕ) (r : Refusal) → normalize text cap room work ≡ Normal.refusal r → r .number ≡ 20 → ⊥
+never-20 text cap room work r e q = go (normalize-numbers text cap room work r e .1)
+  where
+    go : (r .number ≤ 19) ⊎ (r .number ≡ 22) → ⊥
+    go (inl h) = omega arith
+    go (inr h) = omega arith

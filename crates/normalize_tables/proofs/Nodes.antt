@@ -1,0 +1,63 @@
+-- Nodes by their numbers: the places of IDs in a list without repetition. Assumes nothing.
+use Prim.Native.Nat.{ℕ, zero, suc, _+_, _*_, _≤_, _<_}
+use native.Mathlib.Omega.{arith}
+use native.Mathlib.Nat.{zero-add}
+use mathlib.Core.Bool.{Bool, true, false, not, _&&_, _||_}
+use mathlib.Core.List.{List, [], _∷_, _++_, map, map-append, append-assoc}
+use mathlib.Core.Path.{_≡_, refl, sym, ap, _∙_}
+use lib.Dec.{eqb, eqb·zero-suc, eqb·suc-zero, eqb·suc-suc}
+use lib.ListN.{length, getD, length-append, length-map}
+use borrow.Author.Tests.{not-true}
+use Rattle.gfa_spec.specs.Bytes.{same, any, nth}
+use Rattle.gfa_spec.proofs.Tests.{by-test, and-left, and-right, or-left, or-right, same-refl, same-sym, distinct}
+use Rattle.normalize_spec.specs.Folding.{taken}
+use Rattle.work.proofs.Rows.{rows-length, rows-snoc}
+use Rattle.gfa.specs.declared.tables.Bases.{Bases}
+use Rattle.gfa.specs.declared.tables.Counts.{Counts}
+use Rattle.gfa.specs.Segments.{segmentAt, segmentsAt}
+use Rattle.normalize_tables.specs.declared.layout.Layout.{Layout}
+use Rattle.normalize_tables.specs.News.{newAt, newsAt, namesAt}
+
+-- ---- names by their places
+
+-- a name that is not in a list is not the one at a place of it
+absent-at : (x : List ℕ) (xs : List (List ℕ)) (k : ℕ) → any (same x) xs ≡ false → k < length xs → same x (nth k xs []) ≡ false
+unfolding any nth
+absent-at x [] k h l = absurd (omega arith)
+absent-at x (y ∷ ys) zero h l = or-left (same x y) (any (same x) ys) h
+absent-at x (y ∷ ys) (suc k) h l = absent-at x ys k (or-right (same x y) (any (same x) ys) h) (omega arith)
+
+-- In a list without repetition two places hold one name exactly if they are one place.
+pub same-place : (xs : List (List ℕ)) (j k : ℕ) → distinct xs ≡ true → j < length xs → k < length xs → same (nth j xs []) (nth k xs []) ≡ eqb j k
+unfolding distinct nth
+same-place [] j k d l m = absurd (omega arith)
+same-place (x ∷ xs) zero zero d l m = same-refl x
+same-place (x ∷ xs) zero (suc k) d l m = rw eqb·zero-suc (absent-at x xs k (not-true (any (same x) xs) (and-left (not (any (same x) xs)) (distinct xs) d)) (omega arith))
+same-place (x ∷ xs) (suc j) zero d l m =
+    rw eqb·suc-zero (same-sym (nth j xs []) x ∙ absent-at x xs j (not-true (any (same x) xs) (and-left (not (any (same x) xs)) (distinct xs) d)) (omega arith))
+same-place (x ∷ xs) (suc j) (suc k) d l m = rw eqb·suc-suc (same-place xs j k (and-right (not (any (same x) xs)) (distinct xs) d) (omega arith) (omega arith))
+
+-- a place of a list, with another list behind it
+pub nth-front : {A : Type 0} (k : ℕ) (xs ys : List A) (d : A) → k < length xs → nth k (xs ++ ys) d ≡ nth k xs d
+unfolding nth
+nth-front k [] ys d l = absurd (omega arith)
+nth-front zero (x ∷ xs) ys d l = refl
+nth-front (suc k) (x ∷ xs) ys d l = nth-front k xs ys d (omega arith)
+
+-- ---- the IDs of the text and of new segments
+
+module _ (text w : List ℕ) (b : Bases) (n : Counts) (g : Layout) (first : ℕ) where
+  -- there are as many as segments and new segments
+  pub names-length : (q : ℕ) → length (namesAt text w b n g first q) ≡ n .segs + q
+  unfolding namesAt taken newsAt segmentsAt
+  names-length q = rw (length-append, length-map, length-map, rows-length, rows-length)
+
+  -- one new segment more
+  pub news-more : (q : ℕ) → newsAt text w b g first (suc q) ≡ newsAt text w b g first q ++ (newAt text b g first w q ∷ [])
+  unfolding newsAt
+  news-more q = let place : 0 + 1 * q ≡ q = omega arith in rows-snoc (newAt text b g first) 1 w 0 q ∙ rw place
+
+  -- and its ID behind the others
+  pub names-more : (q : ℕ) → namesAt text w b n g first (suc q) ≡ namesAt text w b n g first q ++ (newAt text b g first w q .id ∷ [])
+  unfolding namesAt taken
+  names-more q = rw (news-more q, map-append, append-assoc)

@@ -1,0 +1,33 @@
+-- What the passes rely on stays where only words behind the rows of the steps change. Assumes nothing.
+use Prim.Native.Nat.{ℕ, _+_, _*_, _≤_}
+use native.Mathlib.Omega.{arith}
+use mathlib.Core.List.{List}
+use mathlib.Core.Path.{_≡_}
+use lib.ListN.{length}
+use Rattle.work.proofs.Rows.{Kept}
+use Rattle.gfa.specs.declared.tables.Bases.{Bases}
+use Rattle.gfa.specs.declared.tables.Counts.{Counts}
+use Rattle.gfa.specs.Entries.{entriesAt}
+use Rattle.gfa.specs.Passes.{overRows}
+use Rattle.gfa.proofs.Standing.{Standing, tables-stand}
+use Rattle.normalize_tables.specs.declared.layout.Layout.{Layout}
+use Rattle.normalize_tables.specs.Layout.{Source}
+
+module _ {text w w' : List ℕ} {b : Bases} {n : Counts} {g : Layout} (s : Source text w b n g) (k : Kept (b .lines) (b .steps + 3 * n .steps) w w') where
+  -- the tables say the same
+  pub standing : Standing text w w' b n
+  standing = tables-stand (s .readable .laid) (s .readable .sound) k
+
+  -- and so do the entries
+  pub entries-stand : entriesAt text w' b (n .lines) ≡ entriesAt text w b (n .lines)
+  entries-stand = standing .entries
+
+  pub source-stands : length w' ≡ length w → Source text w' b n g
+  source-stands e =
+      let t = standing in
+      record {
+        apart = rw (t .of-segments) (s .apart);
+        visits = unfold overRows in rw (t .of-paths) (unfold overRows in s .visits);
+        readable = record { laid = rw e (s .readable .laid); few = s .readable .few; sound = t .sound };
+        placed = rw e (s .placed);
+      }

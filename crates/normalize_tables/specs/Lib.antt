@@ -1,0 +1,5 @@
+-- What the normalizer's tables say.
+pub mod Layout
+pub mod Marks
+pub mod News
+pub mod Rewritten

@@ -1,0 +1,110 @@
+-- New segments, new steps and new paths as rows of the work area. Document 01, "Folding", rules 4 and 5.
+use Prim.Native.Nat.{ℕ, suc, _+_, _*_, _≤_, _<_}
+use mathlib.Core.Bool.{true, cond}
+use mathlib.Core.List.{List, [], _∷_}
+use mathlib.Core.Option.{Option, none, some, Option·map}
+use mathlib.Core.Path.{_≡_}
+use lib.Dec.{ltb}
+use lib.ListN.{length, getD}
+use Rattle.gfa_spec.specs.Bytes.{same, any, nth, repeat}
+use Rattle.gfa_spec.specs.Decimal.{decimal, largest64}
+use Rattle.gfa_spec.specs.Reading.{Segment, isOrientation}
+use Rattle.normalize_spec.specs.Folding.{New, NewStep, taken, noneMade}
+use Rattle.normalize_spec.specs.Links.{Key}
+use Rattle.normalize_spec.specs.NewNames.{newName}
+use Rattle.work.specs.Rows.{rowsAt}
+use Rattle.gfa.specs.declared.tables.Bases.{Bases}
+use Rattle.gfa.specs.declared.tables.Counts.{Counts}
+use Rattle.gfa.specs.Segments.{segmentAt, segmentsAt}
+use Rattle.normalize_tables.specs.declared.layout.Layout.{Layout}
+
+-- ---- new segments
+
+-- the first number that a new segment may have; the largest of all stands for none, as it is never used
+unfoldable pub firstOf : Option ℕ → ℕ
+firstOf none = largest64
+firstOf (some m) = m
+
+-- the first number of a text: the largest ID plus one, where every ID reads as a number
+unfoldable pub firstNumber : List Segment → ℕ
+firstNumber ss = firstOf (noneMade ss .next)
+
+-- the ID of new segment j: the j-th number from the first on while that may be used, else the name of its unit and run length with a suffix
+unfoldable pub idOf : ℕ → ℕ → List ℕ → ℕ → ℕ → List ℕ
+idOf first j unit count suffix = cond (ltb (first + j) largest64) (decimal (first + j)) (newName unit count suffix)
+
+-- new segment j: the four words of its row are the number of its unit, the run length, the suffix of its name, and the new segment before it on
+-- that unit, counted from 1, or 0
+unfoldable pub newAt : List ℕ → Bases → Layout → ℕ → List ℕ → ℕ → New
+newAt text b g first work j =
+    let s = segmentAt text work (b .segs + 6 * getD work (g .segs + 4 * j) 0) in
+    let count = getD work (g .segs + 4 * j + 1) 0 in
+    record { unit = s .id; count = count; id = idOf first j (s .id) count (getD work (g .segs + 4 * j + 2) 0); sequence = repeat count (s .sequence) }
+
+-- the first q new segments
+unfoldable pub newsAt : List ℕ → List ℕ → Bases → Layout → ℕ → ℕ → List New
+newsAt text work b g first q = rowsAt (newAt text b g first) 1 work 0 q
+
+-- What a new segment's row may be relied on for: its unit is a segment of the text, and its run is one of a path.
+pub record NewRow (n : Counts) (work : List ℕ) (at : ℕ) : Type 0 where
+  pub unit : getD work at 0 < n .segs
+  pub count : getD work (at + 1) 0 ≤ n .steps
+  pub suffix : getD work (at + 2) 0 ≤ n .segs + n .steps
+
+-- ---- nodes
+
+-- the IDs of the segments of the text, and of the first q new ones: a node's number is its place in this list
+unfoldable pub namesAt : List ℕ → List ℕ → Bases → Counts → Layout → ℕ → ℕ → List (List ℕ)
+namesAt text work b n g first q = taken (segmentsAt text work (b .segs) (n .segs)) (newsAt text work b g first q)
+
+-- the first place of a string in a list, counted from 0
+unfoldable pub placeOf : List (List ℕ) → List ℕ → Option ℕ
+placeOf [] x = none
+placeOf (y ∷ ys) x = cond (same y x) (some 0) (Option·map suc (placeOf ys x))
+
+-- Each name that was made has the first suffix that was free: the names with smaller suffixes are taken.
+pub record Suffixed (text work : List ℕ) (b : Bases) (n : Counts) (g : Layout) (first q : ℕ) : Type 0 where
+  pub taken : (j s : ℕ) → j < q → largest64 ≤ first + j → s < getD work (g .segs + 4 * j + 2) 0
+      → any (same (newName (newAt text b g first work j .unit) (newAt text b g first work j .count) s)) (namesAt text work b n g first q) ≡ true
+
+-- ---- new steps and new paths
+
+-- the new step whose row is at the word `at`: its node's number, and its orientation
+unfoldable pub newStepAt : List (List ℕ) → List ℕ → ℕ → NewStep
+newStepAt names work at = record { name = nth (getD work at 0) names []; orientation = getD work (at + 1) 0 }
+
+-- the first n new steps of the table at `base`
+unfoldable pub newStepsAt : List (List ℕ) → List ℕ → ℕ → ℕ → List NewStep
+newStepsAt names work base n = rowsAt (newStepAt names) 2 work base n
+
+-- A new step's row has the number of a node, one of so many, with + or -.
+pub record NewStepRow (nodes : ℕ) (work : List ℕ) (at : ℕ) : Type 0 where
+  pub node : getD work at 0 < nodes
+  pub mark : isOrientation (getD work (at + 1) 0) ≡ true
+
+-- the new path whose row is at the word `at`: its first step, and how many it has; `steps` is the base of the new steps
+unfoldable pub newPathAt : List (List ℕ) → ℕ → List ℕ → ℕ → List NewStep
+newPathAt names steps work at = newStepsAt names work (steps + 2 * getD work at 0) (getD work (at + 1) 0)
+
+-- the first n new paths of the table at `base`
+unfoldable pub newPathsAt : List (List ℕ) → ℕ → List ℕ → ℕ → ℕ → List (List NewStep)
+newPathsAt names steps work base n = rowsAt (newPathAt names steps) 2 work base n
+
+-- A new path's row has steps below `count`.
+pub record NewPathRow (count : ℕ) (work : List ℕ) (at : ℕ) : Type 0 where
+  pub steps : getD work at 0 + getD work (at + 1) 0 ≤ count
+
+-- ---- added links
+
+-- the added link whose word is at `at`: a new step's number, and the step behind it
+unfoldable pub keyAt : List (List ℕ) → ℕ → List ℕ → ℕ → Key
+keyAt names steps work at =
+    record { from = newStepAt names work (steps + 2 * getD work at 0); to = newStepAt names work (steps + 2 * (getD work at 0 + 1)) }
+
+-- the first n added links of the table at `base`
+unfoldable pub keysAt : List (List ℕ) → ℕ → List ℕ → ℕ → ℕ → List Key
+keysAt names steps work base n = rowsAt (keyAt names steps) 1 work base n
+
+-- An added link's word is the number of a new step that has one behind it.
+pub record KeyRow (count : ℕ) (work : List ℕ) (at : ℕ) : Type 0 where
+  pub step : getD work at 0 + 1 < count
