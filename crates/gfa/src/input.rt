@@ -12,6 +12,7 @@ use crate::tables::Bases;
 use crate::tables::Counts;
 
 // What every call answers: number 0 is acceptance, its length the bytes written; a field not named is 0 (document 01, "Refused calls").
+#[repr(C)]
 pub struct Answer {
     pub number: usize,
     pub line: usize,

@@ -1,3 +1,5 @@
 -- Laws of the normalizer's tables, in reading order.
+pub mod Lists
 pub mod Sources
 pub mod Nodes
+pub mod Numbered

@@ -1,0 +1,2 @@
+-- A law of the report's refusals.
+pub mod Numbers

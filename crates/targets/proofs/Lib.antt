@@ -1,0 +1,6 @@
+-- Laws of the marks, in reading order.
+pub mod Filling
+pub mod Adding
+pub mod EligibleMarks
+pub mod Looking
+pub mod FoldedMarks

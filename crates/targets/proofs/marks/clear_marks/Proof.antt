@@ -1,0 +1,56 @@
+-- `targets::marks::clear_marks` meets its contract. The loop's invariant: the words before `i` are 0. Assumes nothing.
+use Prim.Native.Nat.{_-_}
+use native.Mathlib.Omega.{arith}
+use mathlib.Core.Path.{refl}
+use Rattle.targets.proofs.Filling.{Filling, filling-start, filling-more, filling-end}
+use Rattle.targets.proofs.marks.clear_marks.Statement.{statement}
+use Rattle.targets.proofs.marks.clear_marks.Tie as tie
+
+abbrev Inv-loop : tie.InvT-loop
+Inv-loop work₀ marks count i₀ work i = Filling (λ j. 0) work₀ work marks count i
+
+abbrev μ-loop : tie.MeasureT-loop
+μ-loop work₀ marks count i₀ work i = count - i
+
+loop-holds : tie.Need-loop-holds Inv-loop μ-loop
+loop-holds c = filling-start (c .pre)
+
+add-work : tie.Need-add-work Inv-loop μ-loop
+add-work c = omega arith
+
+mul-work : tie.Need-mul-work Inv-loop μ-loop
+mul-work c = omega arith
+
+slice-write-work : tie.Need-slice-write-work Inv-loop μ-loop
+slice-write-work c = omega arith
+
+add-i : tie.Need-add-i Inv-loop μ-loop
+add-i c = omega arith
+
+loop-less : tie.Need-loop-less Inv-loop μ-loop
+loop-less c = omega arith
+
+loop-again : tie.Need-loop-again Inv-loop μ-loop
+loop-again c = filling-more (c .before .loop .inv) 0 (c .loop-test .taken) refl
+
+same-length : tie.Need-same-length Inv-loop μ-loop
+same-length c = omega arith
+
+returns : tie.Need-returns Inv-loop μ-loop
+returns c = let z = filling-end (c .before .loop .inv) (c .loop-test .left) in record { zeros = z .0; long = c .before .loop .inv .long; only = z .1 }
+
+pub clear-marks-spec : {M : Type 1} → statement M
+clear-marks-spec =
+    tie.close
+    (tie.spec
+    Inv-loop
+    μ-loop
+    loop-holds
+    add-work
+    mul-work
+    slice-write-work
+    add-i
+    loop-less
+    loop-again
+    same-length
+    returns)

@@ -1,0 +1,2 @@
+-- What the contracts of the marks say.
+pub mod Marking
