@@ -55,12 +55,12 @@ numberIn : Found → ℕ
 numberIn (found.At k) = k .0
 numberIn found.Nothing = 0
 
-found-at : (o : Option ℕ) (k : ℕ) → foundAs o ≡ found.At (record { 0 = k }) → o ≡ some k
+pub found-at : (o : Option ℕ) (k : ℕ) → foundAs o ≡ found.At (record { 0 = k }) → o ≡ some k
 unfolding numberIn
 found-at none k e = let z : _≡_ {A = ℕ} 0 1 = cc in absurd (omega arith)
 found-at (some j) k e = ap some (ap numberIn e)
 
-found-nothing : (o : Option ℕ) → foundAs o ≡ found.Nothing → o ≡ none
+pub found-nothing : (o : Option ℕ) → foundAs o ≡ found.Nothing → o ≡ none
 found-nothing none e = refl
 found-nothing (some j) e = let z : _≡_ {A = ℕ} 0 1 = cc in absurd (omega arith)
 

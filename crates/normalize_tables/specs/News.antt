@@ -9,7 +9,7 @@ use lib.ListN.{length, getD}
 use Rattle.gfa_spec.specs.Bytes.{same, any, nth, repeat}
 use Rattle.gfa_spec.specs.Decimal.{decimal, largest64}
 use Rattle.gfa_spec.specs.Reading.{Segment, isOrientation}
-use Rattle.normalize_spec.specs.Folding.{New, NewStep, taken, noneMade}
+use Rattle.normalize_spec.specs.Folding.{New, NewStep, sanitized, taken, noneMade}
 use Rattle.normalize_spec.specs.Links.{Key}
 use Rattle.normalize_spec.specs.NewNames.{newName}
 use Rattle.work.specs.Rows.{rowsAt}
@@ -62,10 +62,13 @@ unfoldable pub placeOf : List (List ℕ) → List ℕ → Option ℕ
 placeOf [] x = none
 placeOf (y ∷ ys) x = cond (same y x) (some 0) (Option·map suc (placeOf ys x))
 
--- Each name that was made has the first suffix that was free: the names with smaller suffixes are taken.
+-- Each name that was made has the first suffix that was free: the names with smaller suffixes are taken, and the suffixes of one sanitized
+-- unit and one run length rise.
 pub record Suffixed (text work : List ℕ) (b : Bases) (n : Counts) (g : Layout) (first q : ℕ) : Type 0 where
   pub taken : (j s : ℕ) → j < q → largest64 ≤ first + j → s < getD work (g .segs + 4 * j + 2) 0
       → any (same (newName (newAt text b g first work j .unit) (newAt text b g first work j .count) s)) (namesAt text work b n g first q) ≡ true
+  pub rising : (i j : ℕ) → i < j → j < q → largest64 ≤ first + i → sanitized (newAt text b g first work i .unit) ≡ sanitized (newAt text b g first work j .unit)
+      → newAt text b g first work i .count ≡ newAt text b g first work j .count → getD work (g .segs + 4 * i + 2) 0 < getD work (g .segs + 4 * j + 2) 0
 
 -- ---- new steps and new paths
 

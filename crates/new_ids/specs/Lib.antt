@@ -1,0 +1,2 @@
+-- What the contracts on IDs say.
+pub mod Ids
