@@ -19,7 +19,7 @@ use Rattle.normalize_spec.specs.Folding.{folded, isFoldedRun, New, Made,
 -- ---- the table of new segments
 
 -- an ID that was made is found among more segments
-made-append : (unit : List ℕ) (count : ℕ) (new more : List New) (id : List ℕ) → madeFor unit count new ≡ some id → madeFor unit count (new ++ more) ≡ some id
+pub made-append : (unit : List ℕ) (count : ℕ) (new more : List New) (id : List ℕ) → madeFor unit count new ≡ some id → madeFor unit count (new ++ more) ≡ some id
 unfolding madeFor
 made-append unit count [] more id h = let z : _≡_ {A = ℕ} 0 1 = cc in absurd (omega arith)
 made-append unit count (n ∷ new) more id h =

@@ -3,7 +3,7 @@ use Prim.Native.Nat.{ℕ, suc}
 use mathlib.Core.Bool.{Bool, true, false, not, _&&_, _||_, and-true, and-false, or-false}
 use mathlib.Core.List.{List, [], _∷_, _++_, map}
 use mathlib.Core.Option.{Option, none, some, Option·elim, Option·map}
-use mathlib.Core.Path.{_≡_, refl, sym, ap, _∙_}
+use mathlib.Core.Path.{_≡_, refl, ap, _∙_}
 use borrow.Author.Tests.{not-true}
 use Rattle.gfa_spec.specs.Bytes.{same, any, keep, nth}
 use Rattle.gfa_spec.specs.Reading.{Segment, Link, Entry}
@@ -47,14 +47,18 @@ module _ (p : Segment → Bool) where
 
 -- ---- folded runs
 
--- a run is folded exactly if it is of two or more, and the segment of its name's number is folded
+-- where the segments that pass a test are folded, a run is exactly if it is of two or more, and the segment of its name's number passes
+pub kept-run : (p : Segment → Bool) (ss : List Segment) (d : Segment) (r : Run) → distinct (map (λ s. s .id) ss) ≡ true
+    → isFoldedRun (keep p ss) r ≡ (isRepeat r && Option·elim (segmentNumber ss (r .step .name .bytes)) false (λ k. p (nth k ss d)))
+unfolding isFoldedRun
+kept-run p ss d r h = ap (λ (t : Bool). isRepeat r && t) (any-keep (λ s. same (s .id) (r .step .name .bytes)) p ss ∙ named p d ss (r .step .name .bytes) h)
+
+-- so it is for a text under a cap
 pub folded-run : (es : List Entry) (cap : ℕ) (d : Segment) (r : Run) → distinct (map (λ s. s .id) (segments es)) ≡ true
     → isFoldedRun (folded es cap) r
     ≡ (isRepeat r && Option·elim (segmentNumber (segments es) (r .step .name .bytes)) false (λ k. isFolded es cap (nth k (segments es) d)))
-unfolding isFoldedRun folded
-folded-run es cap d r h =
-    ap (λ (t : Bool). isRepeat r && t)
-    (any-keep (λ s. same (s .id) (r .step .name .bytes)) (isFolded es cap) (segments es) ∙ named (isFolded es cap) d (segments es) (r .step .name .bytes) h)
+unfolding folded
+folded-run es cap d r h = kept-run (isFolded es cap) (segments es) d r h
 
 -- ---- self-links, one link more
 

@@ -125,8 +125,16 @@ make-sound ss r made h =
       repeated = all-more (isRepeated ss) (made .new) n (h .repeated) (unfold isRepeated newSegment in same-refl (repeat (r .count) (sequenceOrEmpty ss (r .step .name .bytes))));
     }
 
--- the new segments of a transformation are sound
+-- the new segments of any paths are sound, whichever segments are folded
+pub paths-sound : (ss fs : List Segment) (ps : List Path) → SoundTable ss (transformPaths ss fs ps (noneMade ss) .made)
+paths-sound ss fs ps = paths-keep ss fs (SoundTable ss) (λ r made f e h. make-sound ss r made h) ps (noneMade ss) (none-sound ss)
+
+-- and so are those of a text under a cap
 pub transform-sound : (es : List Entry) (cap : ℕ) → SoundTable (segments es) (transform es cap .made)
 unfolding transform
-transform-sound es cap =
-    paths-keep (segments es) (folded es cap) (SoundTable (segments es)) (λ r made f e h. make-sound (segments es) r made h) (paths es) (noneMade (segments es)) (none-sound (segments es))
+transform-sound es cap = paths-sound (segments es) (folded es cap) (paths es)
+
+-- all IDs differ, if those of the text do
+pub sound-differ : (ss : List Segment) (made : Made) → SoundTable ss made → distinct (ids ss) ≡ true → distinct (taken ss (made .new)) ≡ true
+unfolding taken ids newIds
+sound-differ ss made s h = distinct-append (ids ss) (newIds (made .new)) h (s .different) (s .outside)

@@ -9,7 +9,7 @@ use Rattle.gfa_spec.specs.Reading.{Step, Segment, Entry}
 use Rattle.gfa_spec.specs.Records.{segments, paths, sequenceOf}
 use Rattle.gfa_spec.specs.Runs.{runs, sameStep, pairs}
 use Rattle.gfa_spec.specs.Spelling.{spell}
-use Rattle.gfa_spec.proofs.Tests.{distinct, distinct-append}
+use Rattle.gfa_spec.proofs.Tests.{distinct}
 use Rattle.gfa_spec.proofs.Known.{Known}
 use Rattle.gfa_spec.proofs.Each.{Each, each-map, nth-map, nth-each}
 use Rattle.normalize_spec.specs.Folding.{folded, New, taken, NewStep, sameNewStep, asNew, transform}
@@ -17,7 +17,7 @@ use Rattle.normalize_spec.specs.Services.{asSegment}
 use Rattle.normalize_spec.specs.Guarantees.{stepsOf, loss}
 use Rattle.normalize_spec.proofs.Images.{images, HasId, transform-images, transform-has}
 use Rattle.normalize_spec.proofs.Lost.{steps-lost}
-use Rattle.normalize_spec.proofs.Segments.{ids, newIds, transform-sound}
+use Rattle.normalize_spec.proofs.Segments.{ids, transform-sound, sound-differ}
 use Rattle.normalize_spec.proofs.Fall.{OnSegment, steps-fall}
 use Rattle.normalize_spec.proofs.Spelled.{sound-spells}
 
@@ -67,5 +67,4 @@ module _ (es : List Entry) (cap : ℕ) where
 
   -- all IDs of the output differ, if those of the input do
   pub ids-differ : distinct (ids (segments es)) ≡ true → distinct (taken (segments es) new) ≡ true
-  unfolding taken ids newIds
-  ids-differ h = distinct-append (ids (segments es)) (newIds new) h (transform-sound es cap .different) (transform-sound es cap .outside)
+  ids-differ h = sound-differ (segments es) (transform es cap .made) (transform-sound es cap) h

@@ -3,3 +3,4 @@ pub mod Lists
 pub mod Sources
 pub mod Nodes
 pub mod Numbered
+pub mod NewsStand

@@ -5,9 +5,15 @@ use mathlib.Core.Bool.{Bool, true, false, _&&_, _||_, and-false}
 use mathlib.Core.List.{List, [], _∷_, _++_}
 use mathlib.Core.Path.{_≡_, refl, _∙_}
 use Rattle.gfa_spec.specs.Bytes.{any, count}
+use Rattle.gfa_spec.specs.Runs.{bit}
 use Rattle.gfa_spec.proofs.Tests.{by-test}
 
--- one more element
+-- one element
+pub count-one : {A : Type 0} (p : A → Bool) (x : A) → count p (x ∷ []) ≡ bit (p x)
+unfolding count bit
+count-one p x = by-test (p x) (λ e. rw e) (λ e. rw e)
+
+-- those of two lists
 pub count-append : {A : Type 0} (p : A → Bool) (xs ys : List A) → count p (xs ++ ys) ≡ count p xs + count p ys
 unfolding count
 count-append p [] ys = omega arith

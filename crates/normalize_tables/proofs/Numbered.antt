@@ -4,7 +4,7 @@ use native.Mathlib.Omega.{arith}
 use mathlib.Core.Bool.{Bool, true, false, not, _&&_}
 use mathlib.Core.List.{List, [], _∷_, map}
 use mathlib.Core.Option.{Option, none, some, Option·elim, Option·map}
-use mathlib.Core.Path.{_≡_, refl, sym, ap, _∙_}
+use mathlib.Core.Path.{_≡_, refl, sym, _∙_}
 use lib.Dec.{eqb, eqb·zero-suc, eqb·suc-zero, eqb·suc-suc}
 use lib.ListN.{length}
 use borrow.Author.Tests.{eq-eqb, not-true}
@@ -17,7 +17,8 @@ use Rattle.normalize_spec.proofs.Marks.{named}
 use Rattle.work.proofs.Rows.{rows-nth, rows-length}
 use Rattle.gfa.specs.declared.segments.Found.{Found}
 use Rattle.gfa.specs.declared.segments.Found.the-variants.{At, Nothing}
-use Rattle.gfa.specs.Segments.{segmentAt, segmentsAt, idsOf, foundAs, FoundIs}
+use Rattle.gfa.specs.Segments.{segmentAt, segmentsAt, idsOf, FoundIs}
+use Rattle.gfa.proofs.Spelled.{found-at, found-nothing as nothing-found}
 
 -- ---- marks
 
@@ -64,30 +65,13 @@ number-says (s ∷ ss) name (suc i) d u l =
 
 -- ---- what a search found
 
-numberIn : Found → ℕ
-numberIn (At k) = k .0
-numberIn Nothing = 0
-
-number-found : (o : Option ℕ) (k : ℕ) → foundAs o ≡ At (record { 0 = k }) → o ≡ some k
-unfolding numberIn
-number-found none k e = let z : _≡_ {A = ℕ} 0 1 = cc in absurd (omega arith)
-number-found (some n) k e = ap some (ap numberIn e)
-
-number-nothing : (o : Option ℕ) → foundAs o ≡ Nothing → o ≡ none
-number-nothing none e = refl
-number-nothing (some n) e = let z : _≡_ {A = ℕ} 0 1 = cc in absurd (omega arith)
-
 module _ {text work : List ℕ} {base count name size : ℕ} {r : Found} (f : FoundIs text work base count name size r) where
   -- the number of the name
   pub found-number : {k : ℕ} → r ≡ At (record { 0 = k }) → segmentNumber (segmentsAt text work base count) (part name size text) ≡ some k
-  found-number {k} e = number-found (segmentNumber (segmentsAt text work base count) (part name size text)) k (sym (f .answer) ∙ e)
+  found-number {k} e = found-at (segmentNumber (segmentsAt text work base count) (part name size text)) k (sym (f .answer) ∙ e)
 
   pub found-nothing : r ≡ Nothing → segmentNumber (segmentsAt text work base count) (part name size text) ≡ none
-  found-nothing e = number-nothing (segmentNumber (segmentsAt text work base count) (part name size text)) (sym (f .answer) ∙ e)
-
-  -- and it is one of the segments
-  pub found-below : {k : ℕ} → r ≡ At (record { 0 = k }) → k < count
-  found-below e = rw e at (f .below)
+  found-nothing e = nothing-found (segmentNumber (segmentsAt text work base count) (part name size text)) (sym (f .answer) ∙ e)
 
 module _ (text work : List ℕ) (base count : ℕ) (apart : distinct (idsOf (segmentsAt text work base count)) ≡ true) (name : List ℕ) where
   -- the segment of row i has a name exactly if the name's number is i

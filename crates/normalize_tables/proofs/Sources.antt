@@ -2,16 +2,20 @@
 use Prim.Native.Nat.{ℕ, _+_, _*_, _≤_}
 use native.Mathlib.Omega.{arith}
 use mathlib.Core.List.{List}
-use mathlib.Core.Path.{_≡_}
+use mathlib.Core.Bool.{Bool}
+use mathlib.Core.Path.{_≡_, _∙_}
 use lib.ListN.{length}
 use Rattle.work.proofs.Rows.{Kept}
 use Rattle.gfa.specs.declared.tables.Bases.{Bases}
 use Rattle.gfa.specs.declared.tables.Counts.{Counts}
+use Rattle.gfa_spec.specs.Reading.{Segment}
 use Rattle.gfa.specs.Entries.{entriesAt}
 use Rattle.gfa.specs.Passes.{overRows}
+use Rattle.gfa.proofs.TableRows.{segment-kept}
 use Rattle.gfa.proofs.Standing.{Standing, tables-stand}
 use Rattle.normalize_tables.specs.declared.layout.Layout.{Layout}
 use Rattle.normalize_tables.specs.Layout.{Source}
+use Rattle.normalize_tables.specs.Marks.{Marked}
 
 module _ {text w w' : List ℕ} {b : Bases} {n : Counts} {g : Layout} (s : Source text w b n g) (k : Kept (b .lines) (b .steps + 3 * n .steps) w w') where
   -- the tables say the same
@@ -31,3 +35,10 @@ module _ {text w w' : List ℕ} {b : Bases} {n : Counts} {g : Layout} (s : Sourc
         readable = record { laid = rw e (s .readable .laid); few = s .readable .few; sound = t .sound };
         placed = rw e (s .placed);
       }
+
+-- marks stay where they and the tables of the text do
+pub marked-stands : {p : Segment → Bool} {text w w' : List ℕ} {b : Bases} {n : Counts} {g : Layout} {hi : ℕ} (base : ℕ) → Source text w b n g → Kept 0 hi w w'
+    → b .steps ≤ hi → base + n .segs ≤ hi → Marked p text w b n base → Marked p text w' b n base
+marked-stands {text = text} {b = b} base s k t h q =
+    let l = s .readable .laid in
+    record { mark = λ i m. k .word (base + i) (omega arith) (omega arith) ∙ q .mark i m ∙ rw (segment-kept k text (b .segs + 6 * i) (omega arith) (omega arith)) }

@@ -14,8 +14,8 @@ use Rattle.gfa_spec.specs.Bytes.{same, part}
 use Rattle.gfa_spec.specs.Reading.{Segment}
 use Rattle.gfa_spec.specs.Runs.{bit}
 use Rattle.gfa_spec.proofs.Tests.{by-test}
-use Rattle.work.specs.Rows.{span, Only}
-use Rattle.work.proofs.Rows.{Kept, only-none, only-then, only-wider, only-kept, outside-less}
+use Rattle.work.specs.Rows.{span, Only, Cleared}
+use Rattle.work.proofs.Rows.{Kept, only-none, only-then, only-kept}
 use Rattle.gfa.specs.declared.tables.Bases.{Bases}
 use Rattle.gfa.specs.declared.tables.Counts.{Counts}
 use Rattle.gfa.specs.declared.segments.Found.{Found}
@@ -26,9 +26,10 @@ use Rattle.gfa.proofs.TableRows.{segment-kept}
 use Rattle.normalize_tables.specs.declared.layout.Layout.{Layout}
 use Rattle.normalize_tables.specs.Layout.{Source}
 use Rattle.normalize_tables.specs.Marks.{Marked}
-use Rattle.normalize_tables.proofs.Numbered.{row-named, found-number, found-nothing, found-below}
-use Rattle.targets.specs.Marking.{Markable, Cleared, Adds}
-use Rattle.targets.proofs.Filling.{only-set}
+use Rattle.gfa.proofs.Spelled.{found-below}
+use Rattle.work.proofs.Filling.{only-set}
+use Rattle.normalize_tables.proofs.Numbered.{row-named, found-number, found-nothing}
+use Rattle.targets.specs.Marking.{Markable, Adds}
 
 -- ---- what is kept
 
@@ -101,9 +102,7 @@ module _ {text w : List ℕ} {b : Bases} {n : Counts} {marks name size : ℕ} {r
 
   module _ {k : ℕ} (e : r ≡ At (record { 0 = k })) where
     named-only : Only (span marks (marks + n .segs) ∷ []) w (set w (marks + k) 1)
-    named-only =
-        let l = found-below f e in
-        only-wider (span marks (marks + n .segs) ∷ []) (only-set w (marks + k) 1) (λ i o. (outside-less (marks + k) (marks + k + 1) (o .0) (omega arith) (omega arith), tt))
+    named-only = let l = found-below f e in only-set w (marks + k) 1 (omega arith) (omega arith)
 
     -- the segment of the number that was found is marked
     named-word : (p : Segment → Bool) → Marked p text w b n marks → (i : ℕ) → i < n .segs

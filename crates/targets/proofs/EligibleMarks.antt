@@ -16,7 +16,7 @@ use Rattle.gfa_spec.proofs.Parts.{length-part, part-none, part-head}
 use Rattle.gfa_spec.proofs.Tests.{by-test, both, clash, refute, equal-same, same-equal, same-sym}
 use Rattle.normalize_spec.specs.Folding.{selfLinked, within, isUnit}
 use Rattle.normalize_spec.proofs.Marks.{linked-snoc}
-use Rattle.work.specs.Rows.{rowsAt, span}
+use Rattle.work.specs.Rows.{rowsAt, span, Cleared}
 use Rattle.work.proofs.Rows.{only-then, rows-snoc}
 use Rattle.gfa.specs.declared.tables.Bases.{Bases}
 use Rattle.gfa.specs.declared.tables.Counts.{Counts}
@@ -26,8 +26,8 @@ use Rattle.gfa.proofs.TableRows.{link-kept}
 use Rattle.normalize_tables.specs.declared.layout.Layout.{Layout}
 use Rattle.normalize_tables.specs.Layout.{Source}
 use Rattle.normalize_tables.proofs.Numbered.{bit-set}
-use Rattle.targets.specs.Marking.{Markable, Cleared, Adds, UnitsKept, MarkedIs}
-use Rattle.targets.proofs.Filling.{Filling, filling-start, filling-ahead, filling-behind, filling-more, filling-end}
+use Rattle.targets.specs.Marking.{Markable, Adds, UnitsKept, MarkedIs}
+use Rattle.work.proofs.Filling.{Filling, filling-start, filling-ahead, filling-behind, filling-more, filling-end}
 use Rattle.targets.proofs.Adding.{eligible-marks, tables-kept, tables-same, marked-by, markable-stands, cleared-marks, adds-none, adds-alike, adds-then}
 
 -- ---- self-links

@@ -12,10 +12,10 @@ use borrow.Author.Tests.{le-leb, lt-leb}
 use Rattle.gfa_spec.specs.Bytes.{part, same, any, count as countOf}
 use Rattle.gfa_spec.specs.Reading.{Segment}
 use Rattle.gfa_spec.specs.Runs.{Run, runs, isRepeat, bit}
-use Rattle.gfa_spec.proofs.Tests.{by-test, same-sym, any-append}
+use Rattle.gfa_spec.proofs.Tests.{same-sym, any-append}
 use Rattle.scan.specs.Places.{partAt}
 use Rattle.normalize_spec.specs.Folding.{repeatsOn}
-use Rattle.work.specs.Rows.{rowsAt, span, Only}
+use Rattle.work.specs.Rows.{rowsAt, span, Only, Cleared}
 use Rattle.work.proofs.Rows.{Kept, only-then, kept-within, rows-snoc}
 use Rattle.work.proofs.RowCuts.{rows-all, rows-none}
 use Rattle.gfa.specs.declared.tables.Bases.{Bases}
@@ -28,10 +28,10 @@ use Rattle.gfa.proofs.TableRows.{step-kept, steps-kept, step-rows-kept}
 use Rattle.normalize_tables.specs.declared.layout.Layout.{Layout}
 use Rattle.normalize_tables.specs.Layout.{Source}
 use Rattle.normalize_tables.specs.Marks.{Marked}
-use Rattle.normalize_tables.proofs.Lists.{count-append}
+use Rattle.normalize_tables.proofs.Lists.{count-one, count-append}
 use Rattle.normalize_tables.proofs.Numbered.{bit-set}
-use Rattle.targets.specs.Marking.{Markable, Cleared, Adds, isRunOn, PathSteps, NextMarked, PathMarked, bothAt, sumTo, BothKept, FoldedIs}
-use Rattle.targets.proofs.Filling.{Filling, filling-start, filling-ahead, filling-behind, filling-more, filling-end}
+use Rattle.targets.specs.Marking.{Markable, Adds, isRunOn, PathSteps, NextMarked, PathMarked, bothAt, sumTo, BothKept, FoldedIs}
+use Rattle.work.proofs.Filling.{Filling, filling-start, filling-ahead, filling-behind, filling-more, filling-end}
 use Rattle.targets.proofs.Adding.{folded-marks, tables-kept, tables-same, segment-same, marked-by, markable-stands, cleared-marks, adds-none, adds-alike, adds-then}
 use Rattle.targets.proofs.Looking.{path-steps}
 
@@ -187,17 +187,12 @@ module _ {before : List ℕ} {g : Layout} {count : ℕ} where
         let e : i ≡ count = omega (arith, s .stored .high) in
         record { marks = z .0; total = rw e at (s .sum); long = s .stored .long; only = z .1 }
 
--- a mark counts one
-count-one : (t : Segment → Bool) (s : Segment) → bit (t s) ≡ countOf t (s ∷ [])
-unfolding bit countOf
-count-one t s = by-test (t s) (λ e. rw e) (λ e. rw e)
-
 -- marks are counted
 sum-count : (text w : List ℕ) (base : ℕ) (f : ℕ → ℕ) (t : Segment → Bool) (n : ℕ) → ((i : ℕ) → i < n → f i ≡ bit (t (segmentAt text w (base + 6 * i)))) → sumTo f n ≡ countOf t (segmentsAt text w base n)
 unfolding sumTo segmentsAt rowsAt
 sum-count text w base f t zero h = unfold countOf in refl
 sum-count text w base f t (suc n) h =
-    rw (count-append t (rowsAt (segmentAt text) 6 w base n) (segmentAt text w (base + 6 * n) ∷ []), sum-count text w base f t n (λ i l. h i (omega arith)), h n (omega arith), count-one t (segmentAt text w (base + 6 * n)))
+    rw (count-append t (rowsAt (segmentAt text) 6 w base n) (segmentAt text w (base + 6 * n) ∷ []), sum-count text w base f t n (λ i l. h i (omega arith)), h n (omega arith), count-one)
 
 -- ---- the folded segments
 

@@ -1,5 +1,4 @@
 -- Laws of the marks, in reading order.
-pub mod Filling
 pub mod Adding
 pub mod EligibleMarks
 pub mod Looking

@@ -26,7 +26,8 @@ use Rattle.gfa.proofs.RunEnds.{step-there}
 use Rattle.normalize_tables.specs.declared.layout.Layout.{Layout}
 use Rattle.normalize_tables.specs.Marks.{Marked}
 use Rattle.normalize_tables.proofs.Lists.{any-alike, any-shared, any-swap}
-use Rattle.normalize_tables.proofs.Numbered.{bit-set, found-number, found-nothing, found-below, passes-named, passes-none}
+use Rattle.gfa.proofs.Spelled.{found-below}
+use Rattle.normalize_tables.proofs.Numbered.{bit-set, found-number, found-nothing, passes-named, passes-none}
 use Rattle.targets.specs.Marking.{Markable, isRunOn, OnMarked, AnyIs, PathSteps}
 
 -- ---- runs on marked segments

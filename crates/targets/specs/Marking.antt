@@ -30,12 +30,6 @@ pub record Markable (text work : List ℕ) (b : Bases) (n : Counts) (marks : ℕ
   pub behind : b .steps + 3 * n .steps ≤ marks
   pub room : marks + n .segs ≤ length work
 
--- So many words are 0.
-pub record Cleared (before work : List ℕ) (marks count : ℕ) : Type 0 where
-  pub zeros : (i : ℕ) → i < count → getD work (marks + i) 0 ≡ 0
-  pub long : length work ≡ length before
-  pub only : Only (span marks (marks + count) ∷ []) before work
-
 -- The segments that pass the test are marked too.
 pub record Adds (t : Segment → Bool) (text before work : List ℕ) (b : Bases) (n : Counts) (marks : ℕ) : Type 0 where
   pub marked : (p : Segment → Bool) → Marked p text before b n marks → Marked (λ s. p s || t s) text work b n marks

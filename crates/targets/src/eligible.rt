@@ -8,7 +8,6 @@ ghost use Rattle.normalize_spec.specs.Folding.{selfLinked, isUnit};
 ghost use Rattle.gfa.specs.Links.{linkAt, linksAt};
 ghost use Rattle.normalize_tables.specs.Layout.{Source};
 ghost use Rattle.targets.specs.Marking.{Markable, Adds, UnitsKept, MarkedIs};
-use crate::marks::clear_marks;
 use crate::marks::mark_name;
 use crate::marks::still_marked;
 use gfa::counts::is_self_link;
@@ -16,6 +15,7 @@ use gfa::tables::Bases;
 use gfa::tables::Counts;
 use normalize_tables::layout::Layout;
 use scan::names::is_star;
+use work::work::clear_words;
 use work::work::word;
 
 // Marks the segment of link `i`, where that is a self-link.
@@ -84,7 +84,7 @@ pub fn mark_eligible(text: &[u8], work: &mut [u32], b: Bases, n: Counts, g: Layo
     requires { ⌜ Source (now text) (now work) b n g ⌝ }
     ensures { λ _. ⌜ MarkedIs cap (now (text .entry)) (now (work .entry)) (now (work .exit)) b n g ⌝ }
 {
-    clear_marks(work, g.eligible, n.segs);
+    clear_words(work, g.eligible, n.segs);
     mark_self_links(text, work, b, n, g.eligible);
     keep_units(text, work, b, n, g.eligible, cap);
 }

@@ -7,7 +7,6 @@ ghost use Rattle.gfa.specs.Paths.{pathsAt};
 ghost use Rattle.gfa.specs.Passes.{StepThere};
 ghost use Rattle.normalize_tables.specs.Layout.{Source};
 ghost use Rattle.targets.specs.Marking.{Markable, Adds, OnMarked, AnyIs, NextMarked, PathSteps, PathMarked, BothKept, FoldedIs};
-use crate::marks::clear_marks;
 use crate::marks::mark_name;
 use crate::marks::still_marked;
 use gfa::runs::run_end;
@@ -16,6 +15,7 @@ use gfa::segments::find_segment;
 use gfa::tables::Bases;
 use gfa::tables::Counts;
 use normalize_tables::layout::Layout;
+use work::work::clear_words;
 use work::work::word;
 
 // Is the run of `times` steps whose first is at the word `at` one of two or more, on a marked segment?
@@ -151,7 +151,7 @@ pub fn mark_folded(text: &[u8], work: &mut [u32], b: Bases, n: Counts, g: Layout
     requires { ⌜ Source (now text) (now work) b n g ⌝ }
     ensures { λ r. ⌜ FoldedIs (now (text .entry)) (now (work .entry)) (now (work .exit)) b n g r ⌝ }
 {
-    clear_marks(work, g.folded, n.segs);
+    clear_words(work, g.folded, n.segs);
     mark_paths(text, work, b, n, g.folded);
     keep_eligible(work, g, n.segs)
 }

@@ -6,7 +6,7 @@ ghost use lib.Dec.{eqb};
 ghost use lib.ListN.{length};
 ghost use Rattle.gfa_spec.specs.Bytes.{same, part};
 ghost use Rattle.gfa_spec.specs.Runs.{bit};
-ghost use Rattle.targets.specs.Marking.{Markable, Cleared, Adds};
+ghost use Rattle.targets.specs.Marking.{Markable, Adds};
 use gfa::segments::Found;
 use gfa::segments::find_segment;
 use gfa::tables::Bases;
@@ -23,18 +23,6 @@ pub fn still_marked(mark: usize, stays: bool) -> usize
         return 1;
     }
     0
-}
-
-// Clears the `count` marks from the word `marks` on.
-pub fn clear_marks(work: &mut [u32], marks: usize, count: usize)
-    requires { ⌜ marks + count ≤ length (now work) ⌝ }
-    ensures { λ _. ⌜ Cleared (now (work .entry)) (now (work .exit)) marks count ⌝ }
-{
-    let mut i = 0;
-    while i < count {
-        work[marks + i] = 0;
-        i += 1;
-    }
 }
 
 // Marks the segment that has the name, if one has it.

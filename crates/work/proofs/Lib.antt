@@ -2,3 +2,4 @@
 pub mod Stores
 pub mod Rows
 pub mod RowCuts
+pub mod Filling

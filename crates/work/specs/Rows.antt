@@ -3,7 +3,7 @@ use Prim.Native.Nat.{ℕ, zero, suc, _+_, _*_, _≤_, _<_}
 use mathlib.Core.List.{List, [], _∷_, _++_}
 use mathlib.Core.Logic.{_⊎_}
 use mathlib.Core.Path.{_≡_}
-use lib.ListN.{getD}
+use lib.ListN.{length, getD}
 
 -- ---- rows
 
@@ -40,3 +40,9 @@ Outside i (r ∷ rs) = ((i < r .from) ⊎ (r .to ≤ i)) × Outside i rs
 -- Only words in these ranges changed.
 pub record Only (rs : List Range) (before after : List ℕ) : Type 0 where
   pub word : (i : ℕ) → Outside i rs → getD after i 0 ≡ getD before i 0
+
+-- The words from `at` on, so many, are 0; only they have changed.
+pub record Cleared (before after : List ℕ) (at count : ℕ) : Type 0 where
+  pub zeros : (i : ℕ) → i < count → getD after (at + i) 0 ≡ 0
+  pub long : length after ≡ length before
+  pub only : Only (span at (at + count) ∷ []) before after

@@ -3,7 +3,7 @@ ghost use mathlib.Core.Path.{_≡_};
 ghost use Prim.Native.Nat.{_+_, _≤_, _<_};
 ghost use lib.ListN.{length, getD, replicate};
 ghost use lib.Seq.{sets};
-ghost use Rattle.work.specs.Rows.{Small};
+ghost use Rattle.work.specs.Rows.{Small, Cleared};
 
 // A word as an index.
 fn wide(x: u32) -> usize
@@ -27,6 +27,18 @@ pub fn clear(work: &mut [u32])
     let mut i = 0;
     while i < work.len() {
         work[i] = 0;
+        i += 1;
+    }
+}
+
+// Makes the `count` words from the word `at` on 0.
+pub fn clear_words(work: &mut [u32], at: usize, count: usize)
+    requires { ⌜ at + count ≤ length (now work) ⌝ }
+    ensures { λ _. ⌜ Cleared (now (work .entry)) (now (work .exit)) at count ⌝ }
+{
+    let mut i = 0;
+    while i < count {
+        work[at + i] = 0;
         i += 1;
     }
 }

@@ -1,7 +1,7 @@
 -- `targets::folded::on_marked` meets its contract: the run is short, on no segment, or on the one whose mark is read. Assumes nothing.
 use native.Mathlib.Omega.{arith}
 use borrow.Author.Needs.{needs}
-use Rattle.normalize_tables.proofs.Numbered.{found-below}
+use Rattle.gfa.proofs.Spelled.{found-below}
 use Rattle.targets.proofs.Looking.{marked-short, marked-unknown, marked-known}
 use Rattle.targets.proofs.folded.on_marked.Statement.{statement}
 use Rattle.targets.proofs.folded.on_marked.Tie as tie

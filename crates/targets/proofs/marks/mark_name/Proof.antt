@@ -1,7 +1,7 @@
 -- `targets::marks::mark_name` meets its contract: no segment has the name, or the one that has it is marked. Assumes nothing.
 use native.Mathlib.Omega.{arith}
 use borrow.Author.Needs.{needs}
-use Rattle.normalize_tables.proofs.Numbered.{found-below}
+use Rattle.gfa.proofs.Spelled.{found-below}
 use Rattle.targets.proofs.Adding.{named-none, named-marked}
 use Rattle.targets.proofs.marks.mark_name.Statement.{statement}
 use Rattle.targets.proofs.marks.mark_name.Tie as tie

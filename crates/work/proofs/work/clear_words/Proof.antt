@@ -1,16 +1,16 @@
--- `targets::marks::clear_marks` meets its contract. The loop's invariant: the words before `i` are 0. Assumes nothing.
+-- `work::work::clear_words` meets its contract. The loop's invariant: the words before `i` are 0. Assumes nothing.
 use Prim.Native.Nat.{_-_}
 use native.Mathlib.Omega.{arith}
 use mathlib.Core.Path.{refl}
-use Rattle.targets.proofs.Filling.{Filling, filling-start, filling-more, filling-end}
-use Rattle.targets.proofs.marks.clear_marks.Statement.{statement}
-use Rattle.targets.proofs.marks.clear_marks.Tie as tie
+use Rattle.work.proofs.Filling.{Filling, filling-start, filling-more, filling-end}
+use Rattle.work.proofs.work.clear_words.Statement.{statement}
+use Rattle.work.proofs.work.clear_words.Tie as tie
 
 abbrev Inv-loop : tie.InvT-loop
-Inv-loop work₀ marks count i₀ work i = Filling (λ j. 0) work₀ work marks count i
+Inv-loop work₀ at count i₀ work i = Filling (λ j. 0) work₀ work at count i
 
 abbrev μ-loop : tie.MeasureT-loop
-μ-loop work₀ marks count i₀ work i = count - i
+μ-loop work₀ at count i₀ work i = count - i
 
 loop-holds : tie.Need-loop-holds Inv-loop μ-loop
 loop-holds c = filling-start (c .pre)
@@ -39,8 +39,8 @@ same-length c = omega arith
 returns : tie.Need-returns Inv-loop μ-loop
 returns c = let z = filling-end (c .before .loop .inv) (c .loop-test .left) in record { zeros = z .0; long = c .before .loop .inv .long; only = z .1 }
 
-pub clear-marks-spec : {M : Type 1} → statement M
-clear-marks-spec =
+pub clear-words-spec : {M : Type 1} → statement M
+clear-words-spec =
     tie.close
     (tie.spec
     Inv-loop

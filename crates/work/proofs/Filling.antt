@@ -1,4 +1,4 @@
--- Words stored one behind the other: the state of a loop over marks. Assumes nothing.
+-- Words stored one behind the other: the state of a loop that fills a part of the work area. Assumes nothing.
 use Prim.Native.Nat.{ℕ, _+_, _≤_, _<_}
 use native.Mathlib.Omega.{arith}
 use mathlib.Core.List.{List, [], _∷_}
@@ -7,16 +7,16 @@ use mathlib.Core.Path.{_≡_, refl, _∙_}
 use lib.ListN.{length, getD, set, length-set}
 use lib.Seq.{getD-set-same, getD-set-other}
 use borrow.Author.Count.{below-more}
 use Rattle.work.specs.Rows.{span, Only}
 use Rattle.work.proofs.Rows.{only-none, only-then, outside-less}
 
--- only one word changed
-pub only-set : (w : List ℕ) (at v : ℕ) → Only (span at (at + 1) ∷ []) w (set w at v)
-only-set w at v = record { word = λ i o. getD-set-other w at i v 0 (λ e. absurd (apart i (o .0) e)) }
+-- a word within a range changes
+pub only-set : {a b : ℕ} (w : List ℕ) (at v : ℕ) → a ≤ at → at < b → Only (span a b ∷ []) w (set w at v)
+only-set {a} {b} w at v l h = record { word = λ i o. getD-set-other w at i v 0 (apart i (o .0)) }
   where
-    apart : (i : ℕ) → (i < at) ⊎ (at + 1 ≤ i) → i ≡ at → ⊥
-    apart i (inl h) e = omega arith
-    apart i (inr h) e = omega arith
+    apart : (i : ℕ) → (i < a) ⊎ (b ≤ i) → i ≡ at → ⊥
+    apart i (inl p) e = omega arith
+    apart i (inr p) e = omega arith
 
 -- The state at i: the words below it are those of v.
 pub record Filling (v : ℕ → ℕ) (before work : List ℕ) (base count i : ℕ) : Type 0 where
@@ -49,8 +49,7 @@ module _ {v : ℕ → ℕ} {before : List ℕ} {base count : ℕ} where
               (λ j l. getD-set-other work (base + i) (base + j) x 0 (λ q. omega arith) ∙ s .done j l)
               (getD-set-same work (base + i) x 0 (omega (arith, s .room, s .long)) ∙ e);
           long = length-set work (base + i) x ∙ s .long;
-          only = only-then (span base (base + (i + 1)) ∷ []) (s .only) (only-set work (base + i) x)
-              (λ j o. ((outside-less base (base + i) (o .0) (omega arith) (omega arith), tt), (outside-less (base + i) (base + i + 1) (o .0) (omega arith) (omega arith), tt)));
+          only = only-then (span base (base + (i + 1)) ∷ []) (s .only) (only-set work (base + i) x (omega arith) (omega arith)) (λ j o. ((outside-less base (base + i) (o .0) (omega arith) (omega arith), tt), o));
         }
 
     pub filling-end : count ≤ i → ((j : ℕ) → j < count → getD work (base + j) 0 ≡ v j) × Only (span base (base + count) ∷ []) before work

@@ -1,0 +1,15 @@
+-- Laws of new segments and new paths in the tables, in reading order.
+pub mod Pairing
+pub mod Chaining
+pub mod NextIds
+pub mod Keeping
+pub mod Lookups
+pub mod Adding
+pub mod Putting
+pub mod Finding
+pub mod Growing
+pub mod Turning
+pub mod Running
+pub mod Passing
+pub mod Transforming
+pub mod Knowns
