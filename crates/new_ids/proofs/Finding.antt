@@ -20,14 +20,13 @@ use Rattle.gfa.specs.declared.tables.Bases.{Bases}
 use Rattle.gfa.specs.declared.tables.Counts.{Counts}
 use Rattle.gfa.specs.declared.segments.Found.{Found}
 use Rattle.gfa.specs.declared.segments.Found.the-variants as found
-use Rattle.gfa.specs.Segments.{segmentAt, segmentsAt, foundAs, FoundIs}
+use Rattle.gfa.specs.Segments.{segmentAt, segmentsAt, FoundIs}
 use Rattle.gfa.proofs.Spelled.{found-at, found-nothing}
 use Rattle.normalize_tables.specs.declared.layout.Layout.{Layout}
 use Rattle.normalize_tables.specs.News.{newAt, newsAt, namesAt, placeOf}
 use Rattle.normalize_tables.proofs.Nodes.{nth-front, names-length, names-more}
-use Rattle.new_ids.specs.declared.ids.Node.{Node}
 use Rattle.new_ids.specs.declared.ids.Node.the-variants.{At, Nothing}
-use Rattle.new_ids.specs.Ids.{nodeAs, NodeIs}
+use Rattle.new_ids.specs.Ids.{NodeIs}
 
 -- ---- places
 

@@ -1,24 +1,22 @@
 -- New segments whose names are made of one sanitized unit and one run length, and the search for the first free suffix. Assumes nothing.
 use Prim.Native.Nat.{ℕ, zero, suc, _+_, _*_, _-_, _≤_, _<_}
-use native.Mathlib.Numerals.{add-one}
 use native.Mathlib.Omega.{arith}
-use mathlib.Core.Bool.{Bool, true, false, cond, not, _&&_, _||_, or-true, or-false}
-use mathlib.Core.List.{List, [], _∷_, _++_, map, map-append}
+use mathlib.Core.Bool.{Bool, true, false, _||_, or-true, or-false}
+use mathlib.Core.List.{List, map, map-append}
 use mathlib.Core.Path.{_≡_, refl, sym, ap, _∙_}
-use lib.Dec.{eqb, ltb}
-use lib.ListN.{length, getD}
+use lib.Dec.{ltb}
+use lib.ListN.{getD}
 use borrow.Author.Tests.{ltb-false, le-ltb, eqb-true, eq-eqb, ne-eqb, not-true}
 use borrow.Author.Count.{below-more}
 use Rattle.gfa_spec.specs.Bytes.{any, same, part}
-use Rattle.gfa_spec.specs.Decimal.{decimal, largest64}
+use Rattle.gfa_spec.specs.Decimal.{largest64}
 use Rattle.gfa_spec.proofs.Parts.{by-order}
-use Rattle.gfa_spec.proofs.Tests.{by-test, clash, both, and-both, refute, same-equal, equal-same, same-refl, same-sym, any-append}
-use Rattle.normalize_spec.specs.Folding.{sanitized, baseName, freeName, taken}
+use Rattle.gfa_spec.proofs.Tests.{clash, both, refute, same-equal, equal-same, same-refl, same-sym, any-append}
+use Rattle.normalize_spec.specs.Folding.{sanitized, baseName, taken}
 use Rattle.normalize_spec.specs.NewNames.{newName}
 use Rattle.normalize_spec.proofs.NewNames.{name-same}
 use Rattle.normalize_spec.proofs.FreeNames.{some-free, first-free, number-not-name}
 use Rattle.work.specs.Rows.{rowsAt}
-use Rattle.work.proofs.Rows.{rows-snoc}
 use Rattle.work.proofs.RowCuts.{rows-all, rows-cons, rows-none}
 use Rattle.gfa.specs.declared.tables.Bases.{Bases}
 use Rattle.gfa.specs.declared.tables.Counts.{Counts}

@@ -1,16 +1,14 @@
 -- The suffixes of the new names stay the first free ones when a new segment is added. Assumes nothing.
 use Prim.Native.Nat.{ℕ, suc, _+_, _*_, _≤_, _<_}
 use native.Mathlib.Omega.{arith}
-use mathlib.Core.Bool.{true, _||_}
-use mathlib.Core.List.{List, [], _∷_, _++_}
-use mathlib.Core.Path.{_≡_, sym, ap, _∙_}
+use mathlib.Core.Bool.{true}
+use mathlib.Core.List.{List}
+use mathlib.Core.Path.{_≡_}
 use lib.ListN.{getD}
 use Rattle.gfa_spec.specs.Bytes.{any, same}
 use Rattle.gfa_spec.specs.Decimal.{largest64}
 use Rattle.gfa_spec.proofs.Parts.{by-order}
 use Rattle.gfa_spec.proofs.Tests.{any-append}
-use Rattle.normalize_spec.specs.Folding.{sanitized}
-use Rattle.normalize_spec.specs.NewNames.{newName}
 use Rattle.gfa.specs.declared.tables.Bases.{Bases}
 use Rattle.gfa.specs.declared.tables.Counts.{Counts}
 use Rattle.gfa.specs.Segments.{segmentAt}

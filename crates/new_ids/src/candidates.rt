@@ -1,11 +1,8 @@
 // The search for the first free suffix.
 ghost use mathlib.Core.Path.{_≡_};
-ghost use mathlib.Core.Bool.{not, _&&_};
 ghost use Prim.Native.Nat.{_+_, _*_, _≤_, _<_};
-ghost use lib.Dec.{eqb, ltb};
 ghost use lib.ListN.{length};
 ghost use Rattle.gfa_spec.specs.Bytes.{any, same, part};
-ghost use Rattle.gfa_spec.specs.Decimal.{largest64};
 ghost use Rattle.normalize_spec.specs.NewNames.{newName};
 ghost use Rattle.work.specs.Rows.{EachRow};
 ghost use Rattle.gfa.specs.Segments.{segmentsAt, SegmentRow, idsOf};

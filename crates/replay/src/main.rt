@@ -2,6 +2,11 @@
 // pattern, and its answer, all of its output and all of its work area are compared. docs/ANSWERS.md says the format.
 use gfa::input::Answer;
 use gfa::services::spell_path;
+use normalize::config::NormalizeSelfLoopsConfig;
+use normalize::returning::NormalizeSelfLoopsResult;
+use normalize::services::normalize_repeat_self_loops;
+use normalize::stats::NormalizeSelfLoopsStats;
+use normalize::stats::no_stats;
 use report::services::diagnose_gfa_with_top_n;
 use scan::names::same_constant;
 use scan::numbers::Number;
@@ -123,37 +128,102 @@ fn same_answer(a: Answer, c: Case) -> bool {
     a.length == c.size
 }
 
-// Calls a service, named by the first letter of its word.
-fn call(service: u8, text: &[u8], arg: usize, out: &mut [u8], work: &mut [u32]) -> Answer {
-    if service == b'r' {
-        return diagnose_gfa_with_top_n(text, arg, out, work);
+// Are the counters of input and output those of the header's words from 10 on?
+fn same_counts(list: &[u8], start: usize, end: usize, s: NormalizeSelfLoopsStats) -> bool
+    requires { ⌜ (start ≤ end) × (end ≤ length (now list)) ⌝ }
+{
+    if s.input_direct_self_loop_edges != number_at(list, start, end, 10) {
+        return false;
     }
-    spell_path(text, arg, out, work)
+    if s.output_direct_self_loop_edges != number_at(list, start, end, 11) {
+        return false;
+    }
+    if s.input_adjacent_same_node_path_steps != number_at(list, start, end, 12) {
+        return false;
+    }
+    if s.output_adjacent_same_node_path_steps != number_at(list, start, end, 13) {
+        return false;
+    }
+    if s.input_adjacent_same_step_path_steps != number_at(list, start, end, 14) {
+        return false;
+    }
+    s.output_adjacent_same_step_path_steps == number_at(list, start, end, 15)
 }
 
-// Replays a call: the answer, the output and the work area are as recorded, and nothing else changed.
-fn call_agrees(
+// Are the counters of what was done those of the words from 16 on?
+fn same_deeds(list: &[u8], start: usize, end: usize, s: NormalizeSelfLoopsStats) -> bool
+    requires { ⌜ (start ≤ end) × (end ≤ length (now list)) ⌝ }
+{
+    if s.normalized_nodes != number_at(list, start, end, 16) {
+        return false;
+    }
+    if s.collapsed_runs != number_at(list, start, end, 17) {
+        return false;
+    }
+    if s.created_segments != number_at(list, start, end, 18) {
+        return false;
+    }
+    if s.added_links != number_at(list, start, end, 19) {
+        return false;
+    }
+    if s.removed_self_loop_links != number_at(list, start, end, 20) {
+        return false;
+    }
+    if s.paths_changed != number_at(list, start, end, 21) {
+        return false;
+    }
+    if s.path_steps_before != number_at(list, start, end, 22) {
+        return false;
+    }
+    s.path_steps_after == number_at(list, start, end, 23)
+}
+
+// Are all fourteen counters those of the header? Only a normalization has any.
+fn same_stats(
+    service: u8,
+    list: &[u8],
+    start: usize,
+    end: usize,
+    s: NormalizeSelfLoopsStats,
+) -> bool
+    requires { ⌜ (start ≤ end) × (end ≤ length (now list)) ⌝ }
+{
+    if service != b'n' {
+        return true;
+    }
+    if !same_counts(list, start, end, s) {
+        return false;
+    }
+    same_deeds(list, start, end, s)
+}
+
+// An answer without counters.
+fn uncounted(answer: Answer) -> NormalizeSelfLoopsResult {
+    NormalizeSelfLoopsResult {
+        answer,
+        stats: no_stats(),
+    }
+}
+
+// Calls a service, named by the first letter of its word.
+fn call(
     service: u8,
     text: &[u8],
-    output: &[u8],
-    c: Case,
+    arg: usize,
     out: &mut [u8],
     work: &mut [u32],
-) -> bool {
-    let room = c.room;
-    let words = c.words;
-    if out.len() < room {
-        return false;
+) -> NormalizeSelfLoopsResult {
+    if service == b'n' {
+        return normalize_repeat_self_loops(text, NormalizeSelfLoopsConfig::new(arg), out, work);
     }
-    if work.len() < words {
-        return false;
+    if service == b'r' {
+        return uncounted(diagnose_gfa_with_top_n(text, arg, out, work));
     }
-    fill_bytes(out);
-    fill_words(work);
-    let a = call(service, text, c.arg, &mut out[..room], &mut work[..words]);
-    if !same_answer(a, c) {
-        return false;
-    }
+    uncounted(spell_path(text, arg, out, work))
+}
+
+// Do the output and the work area hold what is recorded, and nothing else that is new?
+fn left_agrees(out: &[u8], work: &[u32], output: &[u8], words: usize) -> bool {
     if out.len() < output.len() {
         return false;
     }
@@ -170,6 +240,40 @@ fn call_agrees(
         return false;
     }
     words_are(work, words, work.len(), WORD)
+}
+
+// Replays a call: the answer, the counters, the output and the work area are as recorded, and nothing else changed.
+fn call_agrees(
+    service: u8,
+    list: &[u8],
+    at: usize,
+    end: usize,
+    text: &[u8],
+    output: &[u8],
+    c: Case,
+    out: &mut [u8],
+    work: &mut [u32],
+) -> bool
+    requires { ⌜ (at ≤ end) × (end ≤ length (now list)) ⌝ }
+{
+    let room = c.room;
+    let words = c.words;
+    if out.len() < room {
+        return false;
+    }
+    if work.len() < words {
+        return false;
+    }
+    fill_bytes(out);
+    fill_words(work);
+    let r = call(service, text, c.arg, &mut out[..room], &mut work[..words]);
+    if !same_answer(r.answer, c) {
+        return false;
+    }
+    if !same_stats(service, list, at, end, r.stats) {
+        return false;
+    }
+    left_agrees(out, work, output, words)
 }
 
 // Where the bytes of a case end, or the list's length where they would pass it.
@@ -240,6 +344,9 @@ fn case_agrees(list: &[u8], at: usize, end: usize, out: &mut [u8], work: &mut [u
     let last = end_of(list.len(), output, c.output);
     call_agrees(
         service,
+        list,
+        at,
+        end,
         &list[text..stop],
         &list[output..last],
         c,
@@ -326,4 +433,8 @@ fn main() {
     let size = io::read_full(0, &mut list);
     print(b"spell", replay(b's', &list[..size], &mut out, &mut work));
     print(b"report", replay(b'r', &list[..size], &mut out, &mut work));
+    print(
+        b"normalize",
+        replay(b'n', &list[..size], &mut out, &mut work),
+    );
 }

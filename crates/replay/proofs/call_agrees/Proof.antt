@@ -44,6 +44,9 @@ same-length-2 c = search needs
 returns-3 : tie.Need-returns-3
 returns-3 c = search needs
 
+same-stats-requires : tie.Need-same-stats-requires
+same-stats-requires c κs = c .before .before .before .before .before .before .before .before .before .before .before .before .before .before .before .before .before .before .before .before .before .before .before .before .pre
+
 same-length-3 : tie.Need-same-length-3
 same-length-3 c = search needs
 
@@ -53,8 +56,8 @@ same-length-4 c = search needs
 returns-4 : tie.Need-returns-4
 returns-4 c = search needs
 
-same-constant-requires : tie.Need-same-constant-requires
-same-constant-requires c κs = search needs
+left-agrees-requires : tie.Need-left-agrees-requires
+left-agrees-requires c κs = search needs
 
 same-length-5 : tie.Need-same-length-5
 same-length-5 c = search needs
@@ -64,51 +67,6 @@ same-length-6 c = search needs
 
 returns-5 : tie.Need-returns-5
 returns-5 c = search needs
-
-bytes-kept-requires : tie.Need-bytes-kept-requires
-bytes-kept-requires c κs = search needs
-
-same-length-7 : tie.Need-same-length-7
-same-length-7 c = search needs
-
-same-length-8 : tie.Need-same-length-8
-same-length-8 c = search needs
-
-returns-6 : tie.Need-returns-6
-returns-6 c = search needs
-
-same-length-9 : tie.Need-same-length-9
-same-length-9 c = search needs
-
-same-length-10 : tie.Need-same-length-10
-same-length-10 c = search needs
-
-returns-7 : tie.Need-returns-7
-returns-7 c = search needs
-
-words-are-requires : tie.Need-words-are-requires
-words-are-requires c κs = search needs
-
-same-length-11 : tie.Need-same-length-11
-same-length-11 c = search needs
-
-same-length-12 : tie.Need-same-length-12
-same-length-12 c = search needs
-
-returns-8 : tie.Need-returns-8
-returns-8 c = search needs
-
-words-are-requires-2 : tie.Need-words-are-requires-2
-words-are-requires-2 c κs = search needs
-
-same-length-13 : tie.Need-same-length-13
-same-length-13 c = search needs
-
-same-length-14 : tie.Need-same-length-14
-same-length-14 c = search needs
-
-returns-9 : tie.Need-returns-9
-returns-9 c = search needs
 
 pub call-agrees-spec : {M : Type 1} → statement M
 call-agrees-spec =
@@ -127,25 +85,11 @@ call-agrees-spec =
     same-length
     same-length-2
     returns-3
+    same-stats-requires
     same-length-3
     same-length-4
     returns-4
-    same-constant-requires
+    left-agrees-requires
     same-length-5
     same-length-6
-    returns-5
-    bytes-kept-requires
-    same-length-7
-    same-length-8
-    returns-6
-    same-length-9
-    same-length-10
-    returns-7
-    words-are-requires
-    same-length-11
-    same-length-12
-    returns-8
-    words-are-requires-2
-    same-length-13
-    same-length-14
-    returns-9)
+    returns-5)

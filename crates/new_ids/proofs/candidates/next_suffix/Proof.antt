@@ -2,7 +2,6 @@
 use Prim.Native.Nat.{_-_}
 use native.Mathlib.Omega.{arith}
 use Rattle.new_ids.proofs.Kin.{Backwards, backwards-start, backwards-more, backwards-hit, backwards-end}
-use Rattle.new_ids.proofs.NewRows.{row-room}
 use Rattle.new_ids.proofs.candidates.next_suffix.Statement.{statement}
 use Rattle.new_ids.proofs.candidates.next_suffix.Tie as tie
 

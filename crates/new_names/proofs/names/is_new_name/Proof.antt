@@ -1,5 +1,4 @@
 -- `new_names::names::is_new_name` meets its contract: by its length, its front, and what stands behind it.
-use mathlib.Core.Path.{sym, ap, _∙_}
 use borrow.Author.Needs.{needs}
 use Rattle.new_names.proofs.Naming.{name-shorter, name-front, name-behind}
 use Rattle.new_names.proofs.names.is_new_name.Statement.{statement}

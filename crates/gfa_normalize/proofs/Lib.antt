@@ -1,0 +1,2 @@
+-- A law of the normalizer's refusals.
+pub mod Numbers

@@ -1,0 +1,52 @@
+-- What a normalization returns and leaves behind, and what every accepted one keeps. Document 01, "Refused calls" and "Folding".
+use Prim.Native.Nat.{ℕ}
+use mathlib.Core.List.{List}
+use mathlib.Core.Path.{_≡_}
+use lib.ListN.{length, take, replicate}
+use Rattle.gfa_spec.specs.Reading.{Entry, parsed, parse}
+use Rattle.gfa_spec.specs.Calls.{Outcome, answer}
+use Rattle.normalize_spec.specs.Counting.{Stats}
+use Rattle.normalize_spec.specs.Services.{Normal, normal, normalize}
+use Rattle.normalize_spec.specs.Guarantees.{Kept, Counted}
+use Rattle.gfa.specs.Served.{answerOf, outputOf}
+use Rattle.normalize.specs.declared.returning.NormalizeSelfLoopsResult.{NormalizeSelfLoopsResult}
+use Rattle.normalize.specs.Counters.{noCounters, counters}
+
+-- the answer to a call: the definition's refusal, or its text
+unfoldable pub outcomeOf : Normal → Outcome
+outcomeOf (Normal.refusal r) = Outcome.refusal r
+outcomeOf (normal text st) = answer text
+
+-- the statistics: the definition's, or all 0 on a refusal
+unfoldable pub statsOf : Normal → Stats
+statsOf (Normal.refusal r) = noCounters
+statsOf (normal text st) = st
+
+-- What a call returns, and leaves in the output; o is what the definition gives.
+pub record NormalAnswered (out out' : List ℕ) (r : NormalizeSelfLoopsResult) (o : Normal) : Type 0 where
+  pub answer : r .answer ≡ answerOf (outcomeOf o)
+  pub stats : counters (r .stats) ≡ statsOf o
+  pub output : out' ≡ outputOf out (outcomeOf o)
+
+-- Demand 3 of a text and of an output: both can be read, and of their entries it is said
+-- that every path spells what it spelled (`kept .spells`), has lost exactly the steps of its folded runs (`kept .lost`), and that this is its
+-- fall in adjacent equal steps (`kept .fallen`); and that the counters are counts of the two (`counted`).
+pub record Keeps (text : List ℕ) (cap : ℕ) (output : List ℕ) (st : Stats) : Type 0 where
+  pub before : List Entry
+  pub after : List Entry
+  pub reads : parse text ≡ parsed before
+  pub kept : Kept before cap output after
+  pub counted : Counted before after st
+
+-- What the public call returns, and leaves in the output and in a work area of `size` words: which definition each part equals.
+pub record Normalized (text : List ℕ) (cap : ℕ) (out out' : List ℕ) (size : ℕ) (work' : List ℕ) (r : NormalizeSelfLoopsResult) : Type 0 where
+  -- number, line, from and length
+  pub answer : r .answer ≡ answerOf (outcomeOf (normalize text cap (length out) size))
+  -- all fourteen counters
+  pub stats : counters (r .stats) ≡ statsOf (normalize text cap (length out) size)
+  -- the answer in front of what was there, or what was there
+  pub output : out' ≡ outputOf out (outcomeOf (normalize text cap (length out) size))
+  -- the work area is all zero
+  pub cleared : work' ≡ replicate size 0
+  -- demand 3, of the bytes that now stand at the front of the output
+  pub kept : r .answer .number ≡ 0 → Keeps text cap (take (r .answer .length) out') (counters (r .stats))

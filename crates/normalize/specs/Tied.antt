@@ -1,0 +1,30 @@
+-- The tables of an admitted text, tied to its entries.
+use mathlib.Core.Bool.{true}
+use mathlib.Core.List.{List}
+use mathlib.Core.Path.{_≡_}
+use Prim.Native.Nat.{ℕ}
+use lib.ListN.{length}
+use Rattle.gfa_spec.specs.Reading.{Entry}
+use Rattle.gfa_spec.specs.Records.{segments, links, paths}
+use Rattle.gfa.specs.declared.tables.Bases.{Bases}
+use Rattle.gfa.specs.declared.tables.Counts.{Counts}
+use Rattle.gfa_spec.proofs.Tests.{distinct}
+use Rattle.gfa.specs.Segments.{segmentsAt, idsOf}
+use Rattle.gfa.specs.Links.{linksAt}
+use Rattle.gfa.specs.Paths.{pathsAt}
+use Rattle.gfa.specs.Entries.{entriesAt}
+use Rattle.gfa.specs.Passes.{Readable, overRows}
+
+-- The tables hold the entries es, their segments, their links and their paths.
+pub record Tied (es : List Entry) (text work : List ℕ) (b : Bases) (n : Counts) : Type 0 where
+  pub entries : entriesAt text work b (n .lines) ≡ es
+  pub of-segments : segmentsAt text work (b .segs) (n .segs) ≡ segments es
+  pub of-links : linksAt text work (b .links) (n .links) ≡ links es
+  pub of-paths : pathsAt text (b .steps) work (b .paths) (n .paths) ≡ paths es
+
+-- What the service knows of the tables of an admitted text.
+pub record Loaded (text work : List ℕ) (b : Bases) (n : Counts) : Type 0 where
+  pub tied : Tied (entriesAt text work b (n .lines)) text work b n
+  pub readable : Readable text work b n
+  pub apart : distinct (idsOf (segmentsAt text work (b .segs) (n .segs))) ≡ true
+  pub visits : overRows length text work b n ≡ n .steps

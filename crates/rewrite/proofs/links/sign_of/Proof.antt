@@ -1,0 +1,14 @@
+-- `rewrite::links::sign_of` meets its contract: + or -.
+use borrow.Author.Needs.{needs}
+use Rattle.rewrite.proofs.NewLines.{orientation-minus}
+use Rattle.rewrite.proofs.links.sign_of.Statement.{statement}
+use Rattle.rewrite.proofs.links.sign_of.Tie as tie
+
+returns : tie.Need-returns
+returns c = search needs
+
+returns-2 : tie.Need-returns-2
+returns-2 c = orientation-minus _ (c .before .pre) (c .if1 .left)
+
+pub sign-of-spec : {M : Type 1} → statement M
+sign-of-spec = tie.close (tie.spec returns returns-2)

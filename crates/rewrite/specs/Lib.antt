@@ -1,0 +1,3 @@
+-- What the contracts of the rewritten text say.
+pub mod Pieces
+pub mod Rewriting
