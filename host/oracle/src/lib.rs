@@ -6,6 +6,7 @@
 mod answer;
 mod locate;
 mod print;
+pub mod timed;
 
 #[cfg(test)]
 mod tests;

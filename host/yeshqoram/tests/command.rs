@@ -1,0 +1,186 @@
+//! The command line: what it prints, its exit status, and that no file is lost.
+
+use std::fs;
+use std::io::Write;
+use std::path::{Path, PathBuf};
+use std::process::{Command, Output, Stdio};
+
+const LISTING: &str = "S\t1\tAC\nL\t1\t+\t1\t+\t0M\nP\tp\t1+,1+,1+\t*\n";
+const FOLDED: &str = "S\t1\tAC\nS\t2\tACACAC\nP\tp\t2+\t*\n";
+
+fn run(args: &[&str], input: &[u8]) -> Output {
+    let mut child = Command::new(env!("CARGO_BIN_EXE_yeshqoram"))
+        .args(args)
+        .stdin(Stdio::piped())
+        .stdout(Stdio::piped())
+        .stderr(Stdio::piped())
+        .spawn()
+        .expect("the program starts");
+    // The program may end before it has read all: that is no failure here.
+    let _ = child.stdin.take().expect("a pipe").write_all(input);
+    child.wait_with_output().expect("the program ends")
+}
+
+fn folder(name: &str) -> PathBuf {
+    let folder = Path::new(env!("CARGO_TARGET_TMPDIR")).join(name);
+    let _ = fs::remove_dir_all(&folder);
+    fs::create_dir_all(&folder).expect("a folder of our own");
+    folder
+}
+
+fn stdout(output: &Output) -> String {
+    String::from_utf8_lossy(&output.stdout).into_owned()
+}
+
+fn stderr(output: &Output) -> String {
+    String::from_utf8_lossy(&output.stderr).into_owned()
+}
+
+#[test]
+fn the_three_services() {
+    let normalized = run(&["normalize"], LISTING.as_bytes());
+    assert_eq!(stdout(&normalized), FOLDED);
+    assert_eq!(normalized.status.code(), Some(0));
+    assert_eq!(
+        stdout(&run(&["normalize", "--cap", "1"], LISTING.as_bytes())),
+        LISTING
+    );
+    assert_eq!(
+        stdout(&run(&["spell", "0"], LISTING.as_bytes())),
+        "ACACAC\n"
+    );
+    let report = stdout(&run(&["report"], LISTING.as_bytes()));
+    assert!(report.starts_with("direct_self_loop_edges=1\n"));
+    assert!(report.ends_with("max_repeat_run_path=p\n"));
+    let totals = stdout(&run(&["report", "--top", "0"], LISTING.as_bytes()));
+    assert!(!totals.contains("node=1"));
+}
+
+#[test]
+fn counters_and_note() {
+    let output = run(&["normalize", "--stats"], LISTING.as_bytes());
+    assert_eq!(stdout(&output), FOLDED);
+    assert!(stderr(&output).contains("path_steps_before=3\npath_steps_after=1\n"));
+    let note = stdout(&run(&["normalize", "--note"], LISTING.as_bytes()));
+    assert!(note.contains("Folded: 1 runs on 1 segments, in 1 of 1 paths"));
+    assert!(note.contains("\n1\t3\t1\n"), "{note}");
+    assert!(note.contains("\n0\tp\t3\t1\t2\t6\n"), "{note}");
+    assert!(note.contains("crates/normalize/specs/Served.antt"));
+    let whole = stdout(&run(
+        &["normalize", "--note", "--cap", "1"],
+        LISTING.as_bytes(),
+    ));
+    assert!(whole.contains("Nothing is folded"));
+    assert!(whole.contains("\n0\tp\t3\t3\t0\t6\n"), "{whole}");
+}
+
+#[test]
+fn refusals_in_words_with_a_caret() {
+    let text = "S\t1\tAC\nL\t1\t+\t1\t+\t0M\nP\tp\t1+,1+,9+\t*\n";
+    let output = run(&["normalize"], text.as_bytes());
+    assert_eq!(output.status.code(), Some(1));
+    assert!(output.stdout.is_empty());
+    let said = stderr(&output);
+    assert!(said.contains("refused (18): a path step names no segment"));
+    let mut lines = said.lines().skip(1);
+    let (line, carets) = (lines.next().unwrap(), lines.next().unwrap());
+    assert!(line.contains("line 3"));
+    assert_eq!(carets.find('^'), line.rfind('9'));
+    assert_eq!(carets.trim(), "^");
+
+    let high = run(&["report"], b"H\nS\t1\t\xc3\n");
+    assert_eq!(high.status.code(), Some(1));
+    assert!(stderr(&high).contains("refused (2)"));
+    assert!(stderr(&high).contains("line 2, byte 5"));
+
+    let bad_line = run(&["report"], b"H\nS\t1\n");
+    assert!(stderr(&bad_line).contains("refused (5)"));
+    assert!(stderr(&bad_line).contains("line 2"));
+
+    let none = run(&["spell", "7"], LISTING.as_bytes());
+    assert_eq!(none.status.code(), Some(1));
+    assert!(stderr(&none).contains("refused (21)"));
+}
+
+#[test]
+fn wrong_commands() {
+    for args in [
+        &[][..],
+        &["fold"],
+        &["report", "--cap", "1"],
+        &["normalize", "--cap"],
+        &["normalize", "--cap", "many"],
+        &["spell"],
+        &["spell", "first"],
+        &["report", "a", "b"],
+        &["report", "--no-such-option"],
+    ] {
+        let output = run(args, b"");
+        assert_eq!(output.status.code(), Some(2), "{args:?}");
+        assert!(stderr(&output).contains("--help"), "{args:?}");
+    }
+    assert!(stdout(&run(&["--help"], b"")).starts_with("usage: yeshqoram"));
+    assert!(stdout(&run(&["--version"], b"")).starts_with("yeshqoram 1"));
+}
+
+#[test]
+fn files_are_replaced_whole_or_left() {
+    let folder = folder("replaced");
+    let input = folder.join("in.gfa");
+    let output = folder.join("out.gfa");
+    fs::write(&input, LISTING).unwrap();
+    fs::write(&output, "as it was").unwrap();
+    let (from, to) = (input.to_str().unwrap(), output.to_str().unwrap());
+
+    let refused = run(&["spell", "9", "-o", to, from], b"");
+    assert_eq!(refused.status.code(), Some(1));
+    assert_eq!(fs::read_to_string(&output).unwrap(), "as it was");
+
+    let done = run(&["normalize", "-o", to, from], b"");
+    assert_eq!(done.status.code(), Some(0), "{}", stderr(&done));
+    assert_eq!(fs::read_to_string(&output).unwrap(), FOLDED);
+
+    // In place: the input is the output.
+    let done = run(&["normalize", "-o", from, from], b"");
+    assert_eq!(done.status.code(), Some(0));
+    assert_eq!(fs::read_to_string(&input).unwrap(), FOLDED);
+
+    let names: Vec<_> = fs::read_dir(&folder).unwrap().collect();
+    assert_eq!(names.len(), 2, "nothing is left beside the files");
+}
+
+#[test]
+fn files_that_cannot_be_read_or_written() {
+    let folder = folder("unreadable");
+    let missing = folder.join("missing.gfa");
+    let no_folder = folder.join("no/out.gfa");
+    for args in [
+        ["report", missing.to_str().unwrap()].as_slice(),
+        ["report", folder.to_str().unwrap()].as_slice(),
+        ["normalize", "-o", no_folder.to_str().unwrap()].as_slice(),
+        ["normalize", "-o", folder.to_str().unwrap()].as_slice(),
+    ] {
+        let output = run(args, LISTING.as_bytes());
+        assert_eq!(output.status.code(), Some(2), "{args:?}");
+        assert!(stderr(&output).starts_with("yeshqoram: "), "{args:?}");
+    }
+    if Path::new("/dev/full").exists() {
+        let full = run(&["normalize", "-o", "/dev/full"], LISTING.as_bytes());
+        assert_eq!(full.status.code(), Some(2));
+    }
+}
+
+#[test]
+fn long_texts() {
+    let mut text = LISTING.as_bytes().to_vec();
+    text.resize(1_048_576, b'#');
+    let output = run(&["spell", "0"], &text);
+    assert_eq!(stdout(&output), "ACACAC\n");
+    text.push(b'#');
+    let output = run(&["spell", "0"], &text);
+    assert_eq!(output.status.code(), Some(1));
+    assert!(stderr(&output).contains("refused (1)"));
+    let small = run(&["normalize", "--room", "10"], LISTING.as_bytes());
+    assert_eq!(small.status.code(), Some(1));
+    assert!(stderr(&small).contains("refused (22)"));
+}
