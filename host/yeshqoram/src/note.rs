@@ -26,23 +26,23 @@ pub fn note(text: &[u8], output: &[u8], cap: usize, stats: &Stats) -> String {
     }
     let mut note = String::from("Release note\n\n");
     let _ = match cap {
-        0 => writeln!(note, "Cap: none."),
-        _ => writeln!(note, "Cap: segments of at most {cap} bases."),
+        0 => writeln!(note, "Cap: none"),
+        _ => writeln!(note, "Cap: segments of at most {cap} bases"),
     };
     if folded.is_empty() {
         note += "Nothing is folded: the text is returned byte for byte.\n";
     } else {
+        let _ = writeln!(note, "Folded runs: {}", stats.collapsed_runs);
+        let _ = writeln!(note, "Segments they are on: {}", stats.normalized_nodes);
         let _ = writeln!(
             note,
-            "Folded: {} runs on {} segments, in {} of {} paths; {} new segments, {} new links, {} links removed.",
-            stats.collapsed_runs,
-            stats.normalized_nodes,
+            "Paths that have one: {} of {}",
             stats.paths_changed,
-            before.paths.len(),
-            stats.created_segments,
-            stats.added_links,
-            stats.removed_self_loop_links,
+            before.paths.len()
         );
+        let _ = writeln!(note, "New segments: {}", stats.created_segments);
+        let _ = writeln!(note, "New links: {}", stats.added_links);
+        let _ = writeln!(note, "Links removed: {}", stats.removed_self_loop_links);
         note += "\nsegment\trun length\truns\n";
         for ((name, length), count) in &folded {
             let _ = writeln!(note, "{}\t{length}\t{count}", printed(name));
@@ -80,6 +80,6 @@ Proved of the text that was written, read again at any length: each path spells 
 spelled before; it has lost exactly the steps of its folded runs, which is also its fall in adjacent equal
 steps; and a looser cap folds at least as much. The statement is `Normalized` in
 crates/normalize/specs/Served.antt (its parts `kept`: `spells`, `lost`, `fallen`), and `calls-monotone` in
-crates/normalize/proofs/Demand.antt. The figures above are counted by the command line from the two texts,
-but for the line `Folded`, whose figures are the proved statistics.
+crates/normalize/proofs/Demand.antt. The figures down to the links removed are the proved statistics; those of the
+two tables are counted by the command line from the two texts.
 ";

@@ -62,7 +62,7 @@ fn counters_and_note() {
     assert_eq!(stdout(&output), FOLDED);
     assert!(stderr(&output).contains("path_steps_before=3\npath_steps_after=1\n"));
     let note = stdout(&run(&["normalize", "--note"], LISTING.as_bytes()));
-    assert!(note.contains("Folded: 1 runs on 1 segments, in 1 of 1 paths"));
+    assert!(note.contains("Folded runs: 1\nSegments they are on: 1\nPaths that have one: 1 of 1\n"));
     assert!(note.contains("\n1\t3\t1\n"), "{note}");
     assert!(note.contains("\n0\tp\t3\t1\t2\t6\n"), "{note}");
     assert!(note.contains("crates/normalize/specs/Served.antt"));
