@@ -5,7 +5,8 @@ test:
 	.ci/run
 
 library:
-	rt staticlib exports
+	@mkdir -p target
+	@rt staticlib exports > target/library.log 2>&1 || { tail -20 target/library.log; exit 1; }
 
 run: library
-	cargo run --release --offline --quiet --manifest-path host/Cargo.toml -p yeshqoram -- normalize $(FILE)
+	@cargo run --release --offline --quiet --manifest-path host/Cargo.toml -p yeshqoram -- normalize $(FILE)
