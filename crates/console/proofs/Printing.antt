@@ -9,8 +9,8 @@ use borrow.Author.Tests.{lt-ltb, le-ltb}
 use Rattle.gfa_spec.specs.Calls.{Refusal, plainly, Outcome, refusal, answer}
 use Rattle.writers.specs.Writers.{Wrote}
 use Rattle.writers.proofs.Writing.{keeps}
-use Rattle.gfa.specs.declared.input.Answer.{Answer}
-use Rattle.gfa.specs.Served.{answerOf, outputOf}
+use Rattle.reader.specs.declared.answers.Answer.{Answer}
+use Rattle.reader.specs.Served.{answerOf, outputOf}
 use Rattle.console.specs.Printed.{refusalText, printed, limited, Prints, ShownIs}
 
 -- a text at the front of a buffer, cut where the buffer ends

@@ -9,7 +9,7 @@ use Rattle.gfa_spec.specs.Bytes.{bytes, endLine}
 use Rattle.gfa_spec.specs.Decimal.{decimal}
 use Rattle.gfa_spec.specs.Calls.{plainly, Outcome, refusal, answer}
 use Rattle.writers.specs.Writers.{Wrote}
-use Rattle.gfa.specs.declared.input.Answer.{Answer}
+use Rattle.reader.specs.declared.answers.Answer.{Answer}
 
 -- a line: a name, `=` and a number
 unfoldable pub numberLine : List ℕ → ℕ → List ℕ

@@ -3,7 +3,7 @@ ghost use mathlib.Core.Path.{_≡_};
 ghost use lib.ListN.{length};
 ghost use Rattle.writers.specs.Writers.{Wrote};
 ghost use Rattle.console.specs.Printed.{refusalText, ShownIs};
-use gfa::input::Answer;
+use reader::answers::Answer;
 use writers::pieces::put_number_line;
 
 // The lines of a refusal, at the front of `out` as far as there is room.

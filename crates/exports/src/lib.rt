@@ -2,14 +2,14 @@
 ghost use lib.ListN.{length};
 ghost use Rattle.gfa_spec.specs.Services.{spellPath};
 ghost use Rattle.report_spec.specs.Services.{reportText};
-ghost use Rattle.gfa.specs.Served.{Served};
+ghost use Rattle.reader.specs.Served.{Served};
 ghost use Rattle.normalize.specs.Served.{Normalized};
-use gfa::input::Answer;
-use gfa::services::spell_path;
 use normalize::config::NormalizeSelfLoopsConfig;
 use normalize::returning::NormalizeSelfLoopsResult;
 use normalize::services::normalize_repeat_self_loops;
+use reader::answers::Answer;
 use report::services::diagnose_gfa_with_top_n;
+use speller::services::spell_path;
 
 // Spells path `k`, counted from 0.
 #[no_mangle]

@@ -1,29 +1,28 @@
 -- The segment made for a unit and a run length, found along its chain; and the names of nodes. Assumes nothing.
-use Prim.Native.Nat.{ℕ, zero, suc, _+_, _*_, _-_, _≤_, _<_}
+use Prim.Native.Nat.{ℕ, zero, suc, _+_, _-_, _≤_, _<_}
 use native.Mathlib.Decide.{decLt}
 use native.Mathlib.Omega.{arith}
 use mathlib.Core.Bool.{true, false, _&&_}
 use mathlib.Core.List.{List, [], _∷_, _++_}
 use mathlib.Core.Option.{none, some}
-use mathlib.Core.Path.{_≡_, refl, sym, ap, _∙_}
+use mathlib.Core.Path.{_≡_, refl, sym, _∙_}
 use lib.Dec.{eqb}
-use lib.ListN.{length, getD}
 use borrow.Author.Tests.{eqb-true, eq-eqb}
 use Rattle.gfa_spec.specs.Bytes.{same, nth}
-use Rattle.gfa_spec.proofs.Tests.{by-test, and-left, and-right, and-both, refute}
+use Rattle.gfa_spec.proofs.Tests.{by-test, both, refute}
 use Rattle.normalize_spec.specs.Folding.{New, madeFor}
 use Rattle.normalize_spec.proofs.Images.{made-append}
 use Rattle.work.specs.Rows.{rowsAt}
-use Rattle.gfa.specs.declared.tables.Bases.{Bases}
-use Rattle.gfa.specs.declared.tables.Counts.{Counts}
-use Rattle.gfa.specs.Segments.{segmentAt}
+use Rattle.tables.specs.declared.tables.Bases.{Bases}
+use Rattle.tables.specs.declared.tables.Counts.{Counts}
+use Rattle.tables.specs.ByNumber.{segmentNo}
 use Rattle.normalize_tables.specs.declared.layout.Layout.{Layout}
-use Rattle.normalize_tables.specs.News.{newAt, newsAt, namesAt}
+use Rattle.normalize_tables.specs.News.{segmentWords, newAt, newsAt, namesAt}
 use Rattle.normalize_tables.proofs.Nodes.{news-more}
 use Rattle.new_ids.proofs.Finding.{id-front, id-behind}
-use Rattle.fold.specs.Chains.{MadeIs}
-use Rattle.fold.specs.Makes.{Making}
-use Rattle.fold.proofs.Lookups.{unit-same}
+use Rattle.new_segs.specs.Chains.{MadeIs}
+use Rattle.new_segs.specs.Makes.{Making}
+use Rattle.new_segs.proofs.Lookups.{unit-same}
 
 -- ---- lists of new segments
 
@@ -50,26 +49,27 @@ module _ (unit : List ℕ) (count : ℕ) where
 
 module _ {text w : List ℕ} {b : Bases} {n : Counts} {g : Layout} {first q : ℕ} (m : Making text w b n g first q) (unit count : ℕ) (h : unit < n .segs) where
   name : List ℕ
-  name = segmentAt text w (b .segs + 6 * unit) .id
+  name = segmentNo text w b unit .id
 
   -- new segment j is of the unit and the run length where its row says so
-  test-at : (j : ℕ) → j < q → (same (newAt text b g first w j .unit) name && eqb (newAt text b g first w j .count) count) ≡ (eqb (getD w (g .segs + 4 * j) 0) unit && eqb (getD w (g .segs + 4 * j + 1) 0) count)
+  test-at : (j : ℕ) → j < q → (same (newAt text b g first w j .unit) name && eqb (newAt text b g first w j .count) count)
+      ≡ (eqb (segmentWords w g j .unit .0) unit && eqb (segmentWords w g j .count) count)
   unfolding newAt name
-  test-at j l = rw (unit-same text w (b .segs) (n .segs) unit h (m .source .apart) (getD w (g .segs + 4 * j) 0) (m .rows .row j l .unit))
+  test-at j l = rw (unit-same text w b n unit h (m .source .apart) (segmentWords w g j .unit .0) (m .rows .row j l .unit))
 
   -- none is, of the first p
-  none-of : (p : ℕ) → p ≤ q → ((i : ℕ) → i < p → getD w (g .segs + 4 * i) 0 ≡ unit → getD w (g .segs + 4 * i + 1) 0 ≡ count → ⊥) → madeFor name count (newsAt text w b g first p) ≡ none
+  none-of : (p : ℕ) → p ≤ q → ((i : ℕ) → i < p → segmentWords w g i .unit .0 ≡ unit → segmentWords w g i .count ≡ count → ⊥) → madeFor name count (newsAt text w b g first p) ≡ none
   none-of zero l d = unfold newsAt rowsAt madeFor in refl
   none-of (suc p) l d =
-      let fails : (eqb (getD w (g .segs + 4 * p) 0) unit && eqb (getD w (g .segs + 4 * p + 1) 0) count) ≡ false =
-      refute (eqb (getD w (g .segs + 4 * p) 0) unit && eqb (getD w (g .segs + 4 * p + 1) 0) count)
-      (λ e. d p (omega arith) (eqb-true (getD w (g .segs + 4 * p) 0) unit (and-left (eqb (getD w (g .segs + 4 * p) 0) unit) (eqb (getD w (g .segs + 4 * p + 1) 0) count) e)) (eqb-true (getD w (g .segs + 4 * p + 1) 0) count (and-right (eqb (getD w (g .segs + 4 * p) 0) unit) (eqb (getD w (g .segs + 4 * p + 1) 0) count) e))) in
+      let fails : (eqb (segmentWords w g p .unit .0) unit && eqb (segmentWords w g p .count) count) ≡ false =
+      refute (eqb (segmentWords w g p .unit .0) unit && eqb (segmentWords w g p .count) count)
+      (λ e. let (units, times) = both e in d p (omega arith) (eqb-true _ _ units) (eqb-true _ _ times)) in
       rw (news-more text w b n g first p)
       (none-append name count (newsAt text w b g first p) (newAt text b g first w p ∷ []) (none-of p (omega arith) (λ i k. d i (omega arith)))
       ∙ one-none name count (newAt text b g first w p) (test-at p (omega arith) ∙ fails))
 
   -- the one that is
-  found-at : (p j : ℕ) → p ≤ q → j < p → getD w (g .segs + 4 * j) 0 ≡ unit → getD w (g .segs + 4 * j + 1) 0 ≡ count → madeFor name count (newsAt text w b g first p) ≡ some (newAt text b g first w j .id)
+  found-at : (p j : ℕ) → p ≤ q → j < p → segmentWords w g j .unit .0 ≡ unit → segmentWords w g j .count ≡ count → madeFor name count (newsAt text w b g first p) ≡ some (newAt text b g first w j .id)
   found-at zero j l k u c = absurd (omega arith)
   found-at (suc p) j l k u c = rw (news-more text w b n g first p) (go (decLt j p) (λ i. found-at p j (omega arith) i u c))
     where
@@ -81,14 +81,14 @@ module _ {text w : List ℕ} {b : Bases} {n : Counts} {g : Layout} {first q : �
           rw last
           (none-append name count (newsAt text w b g first j) (newAt text b g first w j ∷ [])
           (none-of j (omega arith) (λ a d x y. m .alone a j d (omega arith) (x ∙ sym u) (y ∙ sym c)))
-          ∙ one-found name count (newAt text b g first w j) (test-at j (omega arith) ∙ and-both (eqb (getD w (g .segs + 4 * j) 0) unit) (eqb (getD w (g .segs + 4 * j + 1) 0) count) (eq-eqb (getD w (g .segs + 4 * j) 0) unit u) (eq-eqb (getD w (g .segs + 4 * j + 1) 0) count c)))
+          ∙ one-found name count (newAt text b g first w j) (test-at j (omega arith) ∙ rw (eq-eqb (segmentWords w g j .unit .0) unit u, eq-eqb (segmentWords w g j .count) count c)))
 
-  module _ {r : ℕ} (f : MadeIs w (g .segs) q unit count r) where
-    pub made-found : 0 < r → madeFor (segmentAt text w (b .segs + 6 * unit) .id) count (newsAt text w b g first q) ≡ some (newAt text b g first w (r - 1) .id)
+  module _ {r : ℕ} (f : MadeIs w g q unit count r) where
+    pub made-found : 0 < r → madeFor (segmentNo text w b unit .id) count (newsAt text w b g first q) ≡ some (newAt text b g first w (r - 1) .id)
     unfolding name
     made-found l = found-at q (r - 1) (omega arith) (omega (arith, f .below)) (f .on l .0) (f .on l .1)
 
-    pub made-none : r ≡ 0 → madeFor (segmentAt text w (b .segs + 6 * unit) .id) count (newsAt text w b g first q) ≡ none
+    pub made-none : r ≡ 0 → madeFor (segmentNo text w b unit .id) count (newsAt text w b g first q) ≡ none
     unfolding name
     made-none e = none-of q (omega arith) (λ i l. f .later i (omega arith) l)
 
@@ -96,8 +96,7 @@ module _ {text w : List ℕ} {b : Bases} {n : Counts} {g : Layout} {first q : �
 
 module _ (text w : List ℕ) (b : Bases) (n : Counts) (g : Layout) (first q : ℕ) where
   -- a segment's
-  pub name-of-unit : (k : ℕ) → k < n .segs → nth k (namesAt text w b n g first q) [] ≡ segmentAt text w (b .segs + 6 * k) .id
-  unfolding segmentAt
+  pub name-of-unit : (k : ℕ) → k < n .segs → nth k (namesAt text w b n g first q) [] ≡ segmentNo text w b k .id
   name-of-unit k h = sym (id-front text w b n g first q k h)
 
   -- a new segment's

@@ -1,64 +1,52 @@
 -- Growth, run by run: what is kept, and what stands. Assumes nothing.
-use Prim.Native.Nat.{ℕ, _+_, _*_, _-_, _≤_, _<_}
+use Prim.Native.Nat.{ℕ, _+_, _≤_, _<_}
 use native.Mathlib.Omega.{arith}
 use mathlib.Core.Bool.{_&&_}
 use mathlib.Core.List.{List, _++_}
 use mathlib.Core.Option.{some}
-use mathlib.Core.Path.{_≡_, ap, _∙_}
+use mathlib.Core.Path.{_≡_, refl, _∙_}
 use lib.Dec.{eqb}
 use lib.ListN.{length, getD}
 use Rattle.gfa_spec.specs.Reading.{Segment}
 use Rattle.gfa_spec.specs.Records.{segmentNumber}
 use Rattle.gfa_spec.specs.Runs.{Run, isRepeat}
 use Rattle.normalize_spec.specs.Folding.{isFoldedRun}
-use Rattle.work.proofs.Rows.{Kept, kept-within, each-kept}
-use Rattle.work.proofs.RowCuts.{rows-split, each-part}
-use Rattle.gfa.specs.declared.tables.Bases.{Bases}
-use Rattle.gfa.specs.declared.tables.Counts.{Counts}
-use Rattle.gfa.specs.Paths.{pathAt}
-use Rattle.gfa.proofs.TableRows.{step-kept, path-kept}
+use Rattle.tables.specs.declared.tables.Bases.{Bases}
+use Rattle.tables.specs.declared.tables.Counts.{Counts}
+use Rattle.tables.specs.ByNumber.{pathNo}
+use Rattle.tables.proofs.ByNumber.{path-stands, step-stands}
 use Rattle.normalize_tables.specs.declared.layout.Layout.{Layout}
 use Rattle.normalize_tables.specs.declared.layout.Made.{Made}
 use Rattle.normalize_tables.specs.Layout.{Source}
-use Rattle.normalize_tables.specs.News.{namesAt, newStepAt, newStepsAt}
-use Rattle.fold.specs.Makes.{madeAt, Frame, Agree}
-use Rattle.fold.specs.Turns.{KnownRow, Folds, Stage, Grown}
+use Rattle.normalize_tables.specs.News.{namesAt, Agree}
+use Rattle.normalize_tables.specs.NewByNumber.{newStepsFrom, KeptTo, SegmentsKept, StepsKept}
+use Rattle.normalize_tables.proofs.NewByNumber.{new-steps-split}
+use Rattle.normalize_tables.proofs.NewsKept.{news-kept, names-kept, new-steps-kept, step-rows-kept}
+use Rattle.new_segs.specs.Makes.{madeAt, Frame}
+use Rattle.fold.specs.Turns.{KnownStep, Folds, Stage, Grown}
 use Rattle.fold.specs.Transforms.{AllKnown}
-use Rattle.fold.proofs.Keeping.{kept-then, low-stands, news-kept, names-kept, making-kept, new-steps-kept, step-rows-more}
+use Rattle.new_segs.proofs.Keeping.{kept-less, of-text, low-stands, making-kept}
 
 -- ---- what stays
 
-module _ {text w w' : List ℕ} {b : Bases} {n : Counts} {g : Layout} (s : Source text w b n g) (low : Kept 0 (g .last) w w') where
+module _ {text w w' : List ℕ} {b : Bases} {n : Counts} {g : Layout} (s : Source text w b n g) (low : KeptTo (g .last) w w') where
   pub folds-kept : {ss fs : List Segment} → Folds ss fs text w b n g → Folds ss fs text w' b n g
   folds-kept {ss} {fs} f = record { segs = low-stands s low .of-segments ∙ f .segs; marks = marks }
     where
       marks : (k : ℕ) (run : Run) → segmentNumber ss (run .step .name .bytes) ≡ some k → k < n .segs → isFoldedRun fs run ≡ (isRepeat run && eqb (getD w' (g .folded + k) 0) 1)
-      marks k run e h = rw (low .word (g .folded + k) (omega arith) (omega (arith, s .placed .last))) (f .marks k run e h)
+      marks k run e h = rw (low .word (g .folded + k) (omega (arith, s .placed .last))) (f .marks k run e h)
 
   -- a step on a segment of the text
-  pub known-kept : (at : ℕ) → at + 3 ≤ g .last → KnownRow text b n w at → KnownRow text b n w' at
-  known-kept at h k = record { number = k .number; is = rw (low-stands s low .of-segments, step-kept low text at (omega arith) h) (k .is) }
+  pub known-kept : (i : ℕ) → i < n .steps → KnownStep text w b n i → KnownStep text w' b n i
+  known-kept i h k = rw (low-stands s low .of-segments, step-stands (s .readable) (of-text s low) i h) k
 
-  -- the path table, and a path
-  pub path-word : (p d : ℕ) → p < n .paths → d < 5 → getD w' (b .paths + 5 * p + d) 0 ≡ getD w (b .paths + 5 * p + d) 0
-  path-word p d h l =
-      let q = s .placed in
-      low .word (b .paths + 5 * p + d) (omega arith) (omega (arith, s .readable .laid .paths, q .eligible, q .folded, q .last))
-
-  pub path-same : (p : ℕ) → p < n .paths → pathAt text (b .steps) w' (b .paths + 5 * p) ≡ pathAt text (b .steps) w (b .paths + 5 * p)
-  path-same p h =
-      let q = s .placed in
-      path-kept text (b .steps) (b .paths + 5 * p) (n .steps) low (omega arith) (omega (arith, s .readable .laid .paths, q .eligible, q .folded, q .last))
-      (kept-within (b .steps) (b .steps + 3 * n .steps) low (omega arith) (omega (arith, q .eligible, q .folded, q .last))) (s .readable .sound .paths .row p h)
+  -- a path
+  pub path-same : (p : ℕ) → p < n .paths → pathNo text w' b p ≡ pathNo text w b p
+  path-same p h = path-stands (s .readable) (of-text s low) p h
 
   -- all steps
   pub all-known-kept : AllKnown text w b n → AllKnown text w' b n
-  all-known-kept k = record { paths = λ p h. rw (path-word p 3 h (omega arith), path-word p 4 h (omega arith)) (each-kept (k .paths p h) (λ i l r. known-kept (b .steps + 3 * getD w (b .paths + 5 * p + 3) 0 + 3 * i) (there p h i l) r)) }
-    where
-      there : (p : ℕ) → p < n .paths → (i : ℕ) → i < getD w (b .paths + 5 * p + 4) 0 → b .steps + 3 * getD w (b .paths + 5 * p + 3) 0 + 3 * i + 3 ≤ g .last
-      there p h i l =
-          let q = s .placed in
-          omega (arith, s .readable .sound .paths .row p h .steps, q .eligible, q .folded, q .last)
+  all-known-kept k = record { paths = λ p h. rw (low-stands s low .of-segments, path-same p h) (k .paths p h) }
 
 -- ---- growth
 
@@ -69,23 +57,28 @@ names-same e = record { same-name = λ k h. rw e }
 pub agree-then : {nodes more : ℕ} {a b c : List (List ℕ)} → Agree nodes a b → Agree more b c → nodes ≤ more → Agree nodes a c
 agree-then p q l = record { same-name = λ k h. q .same-name k (omega arith) ∙ p .same-name k h }
 
-pub frame-less : {g : Layout} {hi t : ℕ} {w v : List ℕ} (hi' t' : ℕ) → Frame g hi t w v → hi' ≤ hi → t' ≤ t → Frame g hi' t' w v
-frame-less {g} hi' t' f h l =
+-- what a frame keeps: nothing has changed, less of it, and one behind the other
+pub frame-none : {g : Layout} {p t : ℕ} {w : List ℕ} → Frame g p t w w
+frame-none =
+    record { long = refl; low = record { word = λ i h. refl }; paths = record { row = λ i h. refl }; steps = record { row = λ i h. refl }; high = λ i h. refl }
+
+pub frame-less : {g : Layout} {p t : ℕ} {w v : List ℕ} (p' t' : ℕ) → Frame g p t w v → p' ≤ p → t' ≤ t → Frame g p' t' w v
+frame-less p' t' f h l =
     record {
       long = f .long;
       low = f .low;
-      paths = kept-within (g .paths) hi' (f .paths) (omega arith) h;
-      steps = kept-within (g .steps) (g .steps + 2 * t') (f .steps) (omega arith) (omega arith);
+      paths = record { row = λ i a. f .paths .row i (omega arith) };
+      steps = record { row = λ i a. f .steps .row i (omega arith) };
       high = f .high;
     }
 
-pub frame-then : {g : Layout} {hi t : ℕ} {w v u : List ℕ} → Frame g hi t w v → Frame g hi t v u → Frame g hi t w u
+pub frame-then : {g : Layout} {p t : ℕ} {w v u : List ℕ} → Frame g p t w v → Frame g p t v u → Frame g p t w u
 frame-then a b =
     record {
       long = b .long ∙ a .long;
-      low = kept-then (a .low) (b .low);
-      paths = kept-then (a .paths) (b .paths);
-      steps = kept-then (a .steps) (b .steps);
+      low = record { word = λ i h. b .low .word i h ∙ a .low .word i h };
+      paths = record { row = λ i h. b .paths .row i h ∙ a .paths .row i h };
+      steps = record { row = λ i h. b .steps .row i h ∙ a .steps .row i h };
       high = λ i h. b .high i h ∙ a .high i h;
     }
 
@@ -105,40 +98,29 @@ module _ {text w v u : List ℕ} {b : Bases} {n : Counts} {g : Layout} {hi : ℕ
 
 -- the new steps from step t on, and those that came behind them
 pub steps-more : {text v u : List ℕ} {b : Bases} {n : Counts} {g : Layout} {hi : ℕ} {k r : Made} {d : ℕ} (t : ℕ) → Stage text v b n g k → Grown text v u b n g hi k r d → t ≤ k .steps
-    → newStepsAt (namesAt text u b n g (r .first) (r .segs)) u (g .steps + 2 * t) (r .steps - t)
-    ≡ newStepsAt (namesAt text v b n g (k .first) (k .segs)) v (g .steps + 2 * t) (k .steps - t) ++ newStepsAt (namesAt text u b n g (r .first) (r .segs)) u (g .steps + 2 * k .steps) (r .steps - k .steps)
-unfolding newStepsAt
+    → newStepsFrom (namesAt text u b n g (r .first) (r .segs)) u g t (r .steps)
+    ≡ newStepsFrom (namesAt text v b n g (k .first) (k .segs)) v g t (k .steps) ++ newStepsFrom (namesAt text u b n g (r .first) (r .segs)) u g (k .steps) (r .steps)
 steps-more {text} {v} {u} {b} {n} {g} {hi} {k} {r} t s q h =
-    let names = namesAt text u b n g (r .first) (r .segs) in
-    let left : r .steps - t ≡ k .steps - t + (r .steps - k .steps) = omega (arith, q .low .1) in
-    let place : g .steps + 2 * t + 2 * (k .steps - t) ≡ g .steps + 2 * k .steps = omega arith in
-    let old = new-steps-kept (q .names) {w = v} {w' = u} (g .steps + 2 * t) (k .steps - t) (kept-within (g .steps + 2 * t) (g .steps + 2 * t + 2 * (k .steps - t)) (q .frame .steps) (omega arith) (omega arith)) (each-part t (k .steps - t) (s .steps) (omega arith)) in
-    rw (left, rows-split (newStepAt names) 2 u (g .steps + 2 * t) (k .steps - t) (r .steps - k .steps), place) (ap (λ l. l ++ newStepsAt names u (g .steps + 2 * k .steps) (r .steps - k .steps)) (unfold newStepsAt in old))
+    new-steps-split (namesAt text u b n g (r .first) (r .segs)) u g t (k .steps) (r .steps) h (q .low .1)
+    ∙ rw (new-steps-kept (q .names) g (q .frame .steps) (s .steps) t (k .steps) h (omega arith))
 
 -- ---- nothing of it changed
 
-module _ {text v u : List ℕ} {b : Bases} {n : Counts} {g : Layout} {m : Made} (s : Stage text v b n g m) (k : Kept 0 (g .paths) v u) (c : Kept (g .segs) (g .steps + 2 * m .steps) v u) where
-  same-low : Kept 0 (g .last) v u
-  same-low = kept-within 0 (g .last) k (omega arith) (omega (arith, s .making .source .placed .paths))
-
-  same-segs : Kept (g .segs) (g .segs + 4 * m .segs) v u
-  same-segs = kept-within (g .segs) (g .segs + 4 * m .segs) c (omega arith) (omega (arith, s .making .source .placed .steps, s .making .half))
-
-  same-steps : Kept (g .steps) (g .steps + 2 * m .steps) v u
-  same-steps = kept-within (g .steps) (g .steps + 2 * m .steps) c (omega (arith, s .making .source .placed .steps)) (omega arith)
+module _ {text v u : List ℕ} {b : Bases} {n : Counts} {g : Layout} {m : Made} (s : Stage text v b n g m) (k : KeptTo (g .paths) v u) (c : SegmentsKept g (m .segs) v u)
+    (d : StepsKept g (m .steps) v u) where
+  same-low : KeptTo (g .last) v u
+  same-low = kept-less (g .last) k (omega (arith, s .making .source .placed .paths))
 
   pub same-names : namesAt text u b n g (m .first) (m .segs) ≡ namesAt text v b n g (m .first) (m .segs)
-  same-names = names-kept (s .making .source) same-low (m .first) (s .making .rows) same-segs
+  same-names = names-kept (s .making .source) (of-text (s .making .source) same-low) (m .first) (s .making .rows) c
 
   pub same-made : (ss : List Segment) → madeAt ss text u b g (m .first) (m .segs) ≡ madeAt ss text v b g (m .first) (m .segs)
   unfolding madeAt
-  same-made ss = rw (news-kept (s .making .source) same-low (m .first) (s .making .rows) same-segs)
+  same-made ss = rw (news-kept (s .making .source) (of-text (s .making .source) same-low) (m .first) (s .making .rows) c)
 
   pub same-new-steps : (t : ℕ) → t ≤ m .steps
-      → newStepsAt (namesAt text u b n g (m .first) (m .segs)) u (g .steps + 2 * t) (m .steps - t) ≡ newStepsAt (namesAt text v b n g (m .first) (m .segs)) v (g .steps + 2 * t) (m .steps - t)
-  same-new-steps t h =
-      new-steps-kept (names-same {nodes = n .segs + m .segs} same-names) {w = v} {w' = u} (g .steps + 2 * t) (m .steps - t)
-      (kept-within (g .steps + 2 * t) (g .steps + 2 * t + 2 * (m .steps - t)) same-steps (omega arith) (omega arith)) (each-part t (m .steps - t) (s .steps) (omega arith))
+      → newStepsFrom (namesAt text u b n g (m .first) (m .segs)) u g t (m .steps) ≡ newStepsFrom (namesAt text v b n g (m .first) (m .segs)) v g t (m .steps)
+  same-new-steps t h = new-steps-kept (names-same {nodes = n .segs + m .segs} same-names) g d (s .steps) t (m .steps) h (omega arith)
 
   pub same-stage : (runs changed : ℕ) → length u ≡ length v → Stage text u b n g (record { first = m .first; segs = m .segs; steps = m .steps; runs = runs; changed = changed })
-  same-stage runs changed e = record { making = making-kept (s .making) k same-segs e; steps = step-rows-more (n .segs + m .segs) (s .steps) same-steps (omega arith) }
+  same-stage runs changed e = record { making = making-kept (s .making) k c e; steps = step-rows-kept g (n .segs + m .segs) (s .steps) d (omega arith) }

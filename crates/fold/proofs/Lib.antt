@@ -1,10 +1,5 @@
--- Laws of new segments and new paths in the tables, in reading order.
+-- Laws of new steps and new paths in the tables, in reading order.
 pub mod Pairing
-pub mod Chaining
-pub mod NextIds
-pub mod Keeping
-pub mod Lookups
-pub mod Adding
 pub mod Putting
 pub mod Finding
 pub mod Growing

@@ -1,83 +1,82 @@
 -- Rows of new steps are put behind the others. Assumes nothing.
-use Prim.Native.Nat.{ℕ, zero, suc, _+_, _*_, _-_, _≤_, _<_}
+use Prim.Native.Nat.{ℕ, zero, suc, _+_, _≤_, _<_}
 use native.Mathlib.Decide.{decLt, ℕ-discrete}
 use native.Mathlib.Omega.{arith}
 use mathlib.Core.Bool.{true}
-use mathlib.Core.List.{List, [], _∷_, _++_}
-use mathlib.Core.Logic.{_⊎_, inl, inr}
+use mathlib.Core.List.{List, [], _∷_}
 use mathlib.Core.Path.{_≡_, refl, ap, _∙_}
 use lib.Dec.{eqb}
-use lib.ListN.{length, getD}
-use lib.Seq.{sets, length-sets}
+use lib.ListN.{length}
 use borrow.Author.Tests.{eqb-true}
 use Rattle.gfa_spec.specs.Bytes.{nth, copies}
 use Rattle.gfa_spec.specs.Reading.{Segment, isOrientation}
 use Rattle.gfa_spec.proofs.Tests.{or-either}
-use Rattle.work.specs.Rows.{rowsAt, EachRow}
-use Rattle.work.proofs.Rows.{Kept, kept-within}
-use Rattle.work.proofs.Stores.{sets-here, sets-first}
-use Rattle.gfa.specs.declared.tables.Bases.{Bases}
-use Rattle.gfa.specs.declared.tables.Counts.{Counts}
+use Rattle.normalize_spec.specs.Folding.{NewStep}
+use Rattle.work.proofs.Rows.{only-none, only-then, outside-less}
+use Rattle.tables.specs.declared.tables.Bases.{Bases}
+use Rattle.tables.specs.declared.tables.Counts.{Counts}
 use Rattle.normalize_tables.specs.declared.layout.Layout.{Layout}
 use Rattle.normalize_tables.specs.declared.layout.Made.{Made}
-use Rattle.normalize_tables.specs.News.{namesAt, newStepAt, newStepsAt, NewStepRow}
-use Rattle.fold.specs.Makes.{madeAt, Making, Frame}
+use Rattle.normalize_tables.specs.declared.rows.NewStepWords.{NewStepWords}
+use Rattle.normalize_tables.specs.Layout.{Placed}
+use Rattle.normalize_tables.specs.News.{stepWords, namesAt, newStepAt}
+use Rattle.normalize_tables.specs.NewByNumber.{newStepNo, newStepsFrom, StepRoom, StepRowsTo, stepSpan, NewStepPut, KeptTo, SegmentsKept, StepsKept}
+use Rattle.normalize_tables.proofs.NewByNumber.{node-kept, mark-kept, steps-put-low, steps-put-paths, steps-put-segments, steps-put-steps, steps-put-behind, new-steps-next, new-steps-none}
+use Rattle.normalize_tables.proofs.NewsKept.{news-kept, names-kept, step-rows-kept}
+use Rattle.new_segs.specs.Makes.{madeAt, Making, Frame}
 use Rattle.fold.specs.Turns.{StepsPut, Stage}
-use Rattle.fold.proofs.Adding.{sets-outside}
-use Rattle.fold.proofs.Keeping.{making-kept, news-kept, names-kept, step-rows-more}
+use Rattle.new_segs.proofs.Keeping.{kept-less, of-text, making-kept}
 
 -- ---- the rows
 
 -- The state at i: the first i rows are put.
-pub record Putting (first work : List ℕ) (at node mark count i : ℕ) : Type 0 where
-  pub room : at + 2 * count ≤ length first
-  pub small : (node < 4294967296) × (mark < 4294967296)
+pub record Putting (first work : List ℕ) (g : Layout) (k : ℕ) (r : NewStepWords) (count i : ℕ) : Type 0 where
+  pub room : StepRoom work g (k + count)
+  pub small : (r .node < 4294967296) × (r .mark < 4294967296)
   pub high : i ≤ count
-  pub nodes : (k : ℕ) → k < i → getD work (at + 2 * k) 0 ≡ node
-  pub marks : (k : ℕ) → k < i → getD work (at + 2 * k + 1) 0 ≡ mark
-  pub long : length work ≡ length first
-  pub kept : (k : ℕ) → (k < at) ⊎ (at + 2 * count ≤ k) → getD work k 0 ≡ getD first k 0
+  pub put : StepsPut first work g k r i
 
-module _ {first : List ℕ} {at node mark count : ℕ} where
-  pub putting-start : (at + 2 * count ≤ length first) × (node < 4294967296) × (mark < 4294967296) → Putting first first at node mark count 0
+module _ {first : List ℕ} {g : Layout} {k : ℕ} {r : NewStepWords} {count : ℕ} where
+  pub putting-start : StepRoom first g (k + count) × (r .node < 4294967296) × (r .mark < 4294967296) → Putting first first g k r count 0
   putting-start h =
-      record { room = h .0; small = (h .1, h .2); high = omega arith; nodes = λ k l. absurd (omega arith); marks = λ k l. absurd (omega arith); long = refl; kept = λ k o. refl }
+      record {
+        room = h .0;
+        small = (h .1, h .2);
+        high = omega arith;
+        put = record { nodes = λ i l b. absurd (omega arith); marks = λ i l b. absurd (omega arith); long = refl; only = only-none };
+      }
 
-  module _ {work : List ℕ} {i : ℕ} (s : Putting first work at node mark count i) where
-    pub putting-more : {work' : List ℕ} → i < count → work' ≡ sets work (at + 2 * i) (node ∷ mark ∷ []) → Putting first work' at node mark count (i + 1)
+  module _ {work : List ℕ} {i : ℕ} (s : Putting first work g k r count i) where
+    pub putting-more : {work' : List ℕ} → i < count → NewStepPut work work' g (k + i) r → Putting first work' g k r count (i + 1)
     putting-more {work'} h e =
-        rw e
-        (record {
-          room = s .room;
+        record {
+          room = rw (e .long) (s .room);
           small = s .small;
           high = omega arith;
-          nodes = λ k l. node-at k l (ℕ-discrete k i);
-          marks = λ k l. mark-at k l (ℕ-discrete k i);
-          long = length-sets work (at + 2 * i) (node ∷ mark ∷ []) ∙ s .long;
-          kept = λ k o. other k (beyond k o) ∙ s .kept k o;
-        })
+          put =
+              record {
+                nodes = λ j l b. node-at j l b (ℕ-discrete j (k + i));
+                marks = λ j l b. mark-at j l b (ℕ-discrete j (k + i));
+                long = e .long ∙ s .put .long;
+                only =
+                    only-then (stepSpan g k (k + (i + 1)) ∷ []) (s .put .only) (e .only)
+                    (λ j o. ((outside-less _ _ (o .0) (omega arith) (omega arith), tt), (outside-less _ _ (o .0) (omega arith) (omega arith), tt)));
+              };
+        }
       where
-        inside : at + 2 * i + 2 ≤ length work
-        inside = omega (arith, s .room, s .long)
+        old : StepsKept g (k + i) work work'
+        old = steps-put-steps g (k + i) (k + i + 1) (e .only)
 
-        other : (k : ℕ) → (k < at + 2 * i) ⊎ (at + 2 * i + 2 ≤ k) → getD (sets work (at + 2 * i) (node ∷ mark ∷ [])) k 0 ≡ getD work k 0
-        other k o = sets-outside (node ∷ mark ∷ []) work (at + 2 * i) k o
+        node-at : (j : ℕ) → k ≤ j → j < k + (i + 1) → Dec (j ≡ k + i) → stepWords work' g j .node ≡ r .node
+        node-at j l b (yes q) = rw q (ap (λ x. x .node) (e .words))
+        node-at j l b (no q) = node-kept g old j (omega arith) ∙ s .put .nodes j l (omega arith)
 
-        beyond : (k : ℕ) → (k < at) ⊎ (at + 2 * count ≤ k) → (k < at + 2 * i) ⊎ (at + 2 * i + 2 ≤ k)
-        beyond k (inl l) = inl (omega arith)
-        beyond k (inr l) = inr (omega arith)
+        mark-at : (j : ℕ) → k ≤ j → j < k + (i + 1) → Dec (j ≡ k + i) → stepWords work' g j .mark ≡ r .mark
+        mark-at j l b (yes q) = rw q (ap (λ x. x .mark) (e .words))
+        mark-at j l b (no q) = mark-kept g old j (omega arith) ∙ s .put .marks j l (omega arith)
 
-        node-at : (k : ℕ) → k < i + 1 → Dec (k ≡ i) → getD (sets work (at + 2 * i) (node ∷ mark ∷ [])) (at + 2 * k) 0 ≡ node
-        node-at k l (yes q) = rw q (sets-first (node ∷ mark ∷ []) work (at + 2 * i) (omega arith) inside)
-        node-at k l (no q) = other (at + 2 * k) (inl (omega arith)) ∙ s .nodes k (omega arith)
-
-        mark-at : (k : ℕ) → k < i + 1 → Dec (k ≡ i) → getD (sets work (at + 2 * i) (node ∷ mark ∷ [])) (at + 2 * k + 1) 0 ≡ mark
-        mark-at k l (yes q) = rw q (sets-here (node ∷ mark ∷ []) work (at + 2 * i) 1 (omega arith) inside)
-        mark-at k l (no q) = other (at + 2 * k + 1) (inl (omega arith)) ∙ s .marks k (omega arith)
-
-    pub putting-end : count ≤ i → StepsPut first work at node mark count
-    putting-end h =
-        record { nodes = λ k l. s .nodes k (omega arith); marks = λ k l. s .marks k (omega arith); long = s .long; only = record { word = λ k o. s .kept k (o .0) } }
+    pub putting-end : count ≤ i → StepsPut first work g k r count
+    putting-end h = let all : i ≡ count = omega (arith, s .high) in rw all at (s .put)
 
 -- an orientation fits
 pub mark-small : (mark : ℕ) → isOrientation mark ≡ true → mark < 4294967296
@@ -86,65 +85,58 @@ mark-small mark h = or-either (eqb mark 43) (eqb mark 45) h (λ e. let f = eqb-t
 
 -- ---- what the tables say then
 
--- one copy more
-copies-snoc : {A : Type 0} (n : ℕ) (a : A) → copies n a ++ (a ∷ []) ≡ copies (suc n) a
-unfolding copies
-copies-snoc zero a = refl
-copies-snoc (suc n) a = ap (λ l. a ∷ l) (copies-snoc n a)
+-- new steps that are all the same
+steps-constant : (names : List (List ℕ)) (w : List ℕ) (g : Layout) (k c : ℕ) (x : NewStep) → ((i : ℕ) → k ≤ i → i < k + c → newStepNo names w g i ≡ x) → newStepsFrom names w g k (k + c) ≡ copies c x
+steps-constant names w g k zero x h = new-steps-none names w g k (k + 0) (omega arith) ∙ (unfold copies in refl)
+steps-constant names w g k (suc c) x h =
+    new-steps-next names w g k (k + suc c) (omega arith)
+    ∙ (let place : k + suc c ≡ k + 1 + c = omega arith in
+    rw (h k (omega arith) (omega arith), place, steps-constant names w g (k + 1) c x (λ i l b. h i (omega arith) (omega arith))) (unfold copies in refl))
 
--- rows that are all the same
-rows-constant : {A : Type 0} (row : List ℕ → ℕ → A) (width : ℕ) (w : List ℕ) (base n : ℕ) (a : A) → ((i : ℕ) → i < n → row w (base + width * i) ≡ a) → rowsAt row width w base n ≡ copies n a
-unfolding rowsAt
-rows-constant row width w base zero a h = unfold copies in refl
-rows-constant row width w base (suc n) a h = rw (rows-constant row width w base n a (λ i l. h i (omega arith)), h n (omega arith)) (copies-snoc n a)
+module _ {text w w' : List ℕ} {b : Bases} {n : Counts} {g : Layout} {m : Made} {r : NewStepWords} {c : ℕ} (s : Stage text w b n g m) (room : m .steps + c ≤ n .steps)
+    (u : StepsPut w w' g (m .steps) r c) where
+  placed : Placed b n g (length w)
+  placed = s .making .source .placed
 
-module _ {text w w' : List ℕ} {b : Bases} {n : Counts} {g : Layout} {m : Made} {node mark c : ℕ} (s : Stage text w b n g m) (room : m .steps + c ≤ n .steps)
-    (u : StepsPut w w' (g .steps + 2 * m .steps) node mark c) where
-  put-below : Kept 0 (g .steps + 2 * m .steps) w w'
-  put-below = record { word = λ i l h. u .only .word i (inl h, tt) }
+  put-low : KeptTo (g .last) w w'
+  put-low = kept-less (g .last) (steps-put-low placed (m .steps) (m .steps + c) (u .only)) (omega (arith, placed .paths))
 
-  put-low : Kept 0 (g .last) w w'
-  put-low = let p = s .making .source .placed in kept-within 0 (g .last) put-below (omega arith) (omega (arith, p .paths, p .segs, p .steps))
+  put-segs : SegmentsKept g (m .segs) w w'
+  put-segs = steps-put-segments placed (m .steps) (m .steps + c) (u .only) (m .segs) (s .making .half)
 
-  put-segs : Kept (g .segs) (g .segs + 4 * m .segs) w w'
-  put-segs = let p = s .making .source .placed in kept-within (g .segs) (g .segs + 4 * m .segs) put-below (omega arith) (omega (arith, p .steps, s .making .half))
-
-  pub put-making : Making text w' b n g (m .first) (m .segs)
-  put-making = let p = s .making .source .placed in making-kept (s .making) (kept-within 0 (g .paths) put-below (omega arith) (omega (arith, p .segs, p .steps))) put-segs (u .long)
+  put-making : Making text w' b n g (m .first) (m .segs)
+  put-making = making-kept (s .making) (steps-put-low placed (m .steps) (m .steps + c) (u .only)) put-segs (u .long)
 
   pub put-names : namesAt text w' b n g (m .first) (m .segs) ≡ namesAt text w b n g (m .first) (m .segs)
-  put-names = names-kept (s .making .source) put-low (m .first) (s .making .rows) put-segs
+  put-names = names-kept (s .making .source) (of-text (s .making .source) put-low) (m .first) (s .making .rows) put-segs
 
   pub put-made : (ss : List Segment) → madeAt ss text w' b g (m .first) (m .segs) ≡ madeAt ss text w b g (m .first) (m .segs)
   unfolding madeAt
-  put-made ss = rw (news-kept (s .making .source) put-low (m .first) (s .making .rows) put-segs)
+  put-made ss = rw (news-kept (s .making .source) (of-text (s .making .source) put-low) (m .first) (s .making .rows) put-segs)
 
-  pub put-frame : Frame g (g .segs) (m .steps) w w'
+  pub put-frame : Frame g (n .paths) (m .steps) w w'
   put-frame =
-      let p = s .making .source .placed in
       record {
         long = u .long;
         low = put-low;
-        paths = kept-within (g .paths) (g .segs) put-below (omega arith) (omega (arith, p .steps));
-        steps = kept-within (g .steps) (g .steps + 2 * m .steps) put-below (omega arith) (omega arith);
-        high = λ i l. u .only .word i (inr (omega (arith, p .added)), tt);
+        paths = steps-put-paths placed (m .steps) (m .steps + c) (u .only);
+        steps = steps-put-steps g (m .steps) (m .steps + c) (u .only);
+        high = steps-put-behind placed (m .steps) (m .steps + c) (u .only) room;
       }
 
-  pub put-steps-are : newStepsAt (namesAt text w' b n g (m .first) (m .segs)) w' (g .steps + 2 * m .steps) c ≡ copies c (record { name = nth node (namesAt text w b n g (m .first) (m .segs)) []; orientation = mark })
-  unfolding newStepsAt newStepAt
+  pub put-steps-are : newStepsFrom (namesAt text w' b n g (m .first) (m .segs)) w' g (m .steps) (m .steps + c)
+      ≡ copies c (record { name = nth (r .node) (namesAt text w b n g (m .first) (m .segs)) []; orientation = r .mark })
   put-steps-are =
-      rows-constant (newStepAt (namesAt text w' b n g (m .first) (m .segs))) 2 w' (g .steps + 2 * m .steps) c (record { name = nth node (namesAt text w b n g (m .first) (m .segs)) []; orientation = mark })
-      (λ i h. rw (u .nodes i h, u .marks i h, put-names))
+      steps-constant (namesAt text w' b n g (m .first) (m .segs)) w' g (m .steps) c (record { name = nth (r .node) (namesAt text w b n g (m .first) (m .segs)) []; orientation = r .mark })
+      (λ i l h. unfold newStepAt in rw (u .nodes i l h, u .marks i l h, put-names))
 
-  pub put-stage : (runs changed : ℕ) → node < n .segs + m .segs → isOrientation mark ≡ true
+  pub put-stage : (runs changed : ℕ) → r .node < n .segs + m .segs → isOrientation (r .mark) ≡ true
       → Stage text w' b n g (record { first = m .first; segs = m .segs; steps = m .steps + c; runs = runs; changed = changed })
-  put-stage runs changed l o = record { making = put-making; steps = record { row = λ i h. row i h (decLt i (m .steps)) } }
+  put-stage runs changed l o = record { making = put-making; steps = record { row = λ i h. record { node = row i h (decLt i (m .steps)) .0; mark = row i h (decLt i (m .steps)) .1 } } }
     where
-      old : EachRow (NewStepRow (n .segs + m .segs)) 2 w' (g .steps) (m .steps)
-      old = step-rows-more (n .segs + m .segs) (s .steps) (put-frame .steps) (omega arith)
+      old : StepRowsTo (n .segs + m .segs) w' g (m .steps)
+      old = step-rows-kept g (n .segs + m .segs) (s .steps) (put-frame .steps) (omega arith)
 
-      row : (i : ℕ) → i < m .steps + c → Dec (i < m .steps) → NewStepRow (n .segs + m .segs) w' (g .steps + 2 * i)
-      row i h (yes k) = old .row i k
-      row i h (no k) =
-          let place : g .steps + 2 * i ≡ g .steps + 2 * m .steps + 2 * (i - m .steps) = omega arith in
-          rw place (record { node = rw (u .nodes (i - m .steps) (omega arith)) l; mark = rw (u .marks (i - m .steps) (omega arith)) o })
+      row : (i : ℕ) → i < m .steps + c → Dec (i < m .steps) → (stepWords w' g i .node < n .segs + m .segs) × (isOrientation (stepWords w' g i .mark) ≡ true)
+      row i h (yes k) = (old .row i k .node, old .row i k .mark)
+      row i h (no k) = (rw (u .nodes i (omega arith) h) l, rw (u .marks i (omega arith) h) o)

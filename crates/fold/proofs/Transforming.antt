@@ -1,7 +1,7 @@
 -- The transformation from its first path to its last. Assumes nothing.
-use Prim.Native.Nat.{ℕ, _+_, _*_, _-_, _≤_, _<_}
+use Prim.Native.Nat.{ℕ, _+_, _≤_, _<_}
 use native.Mathlib.Omega.{arith}
-use mathlib.Core.Bool.{Bool, true, false, _&&_}
+use mathlib.Core.Bool.{Bool, _&&_}
 use mathlib.Core.List.{List, [], _∷_, map}
 use mathlib.Core.Logic.{_⊎_, inl, inr, ⊎-elim}
 use mathlib.Core.Option.{some, Option·elim}
@@ -12,67 +12,64 @@ use Rattle.gfa_spec.specs.Bytes.{any, keep, sum, count as countOf}
 use Rattle.gfa_spec.specs.Reading.{Segment}
 use Rattle.gfa_spec.specs.Records.{segmentNumber}
 use Rattle.gfa_spec.specs.Runs.{Run, runs as runsOf, isRepeat, bit}
+use Rattle.gfa_spec.proofs.Counting.{bit-set}
 use Rattle.normalize_spec.specs.Folding.{AllTransformed, isFoldedRun, transformPaths, noneMade}
 use Rattle.normalize_spec.specs.Counting.{foldedRuns}
 use Rattle.normalize_spec.proofs.Marks.{kept-run}
 use Rattle.normalize_spec.proofs.Onward.{beforePaths, paths-start, paths-end}
 use Rattle.work.specs.Rows.{rowsAt, Cleared}
-use Rattle.work.proofs.Rows.{Kept, each-none}
-use Rattle.work.proofs.RowCuts.{rows-all, rows-none}
-use Rattle.gfa.specs.declared.tables.Bases.{Bases}
-use Rattle.gfa.specs.declared.tables.Counts.{Counts}
-use Rattle.gfa.specs.Segments.{segmentAt, segmentsAt, idsOf}
-use Rattle.gfa.specs.Paths.{pathAt, pathsAt}
-use Rattle.gfa.specs.Passes.{overRows}
-use Rattle.gfa.proofs.Totals.{summed-start, summed-end}
+use Rattle.work.proofs.Rows.{each-none}
+use Rattle.tables.specs.declared.tables.Bases.{Bases}
+use Rattle.tables.specs.declared.tables.Counts.{Counts}
+use Rattle.tables.specs.Segments.{idsOf}
+use Rattle.tables.specs.ByNumber.{segmentNo, segmentsOf, pathsTo, pathsFrom}
+use Rattle.tables.specs.Tables.{Readable}
+use Rattle.runs.specs.Counts.{overRows}
+use Rattle.tables.proofs.ByNumber.{paths-all, paths-none, segments-nth}
+use Rattle.runs.proofs.Totals.{summed-start, summed-end}
 use Rattle.normalize_tables.specs.declared.layout.Layout.{Layout}
 use Rattle.normalize_tables.specs.declared.layout.Made.{Made}
 use Rattle.normalize_tables.specs.Layout.{Source}
 use Rattle.normalize_tables.specs.Marks.{Marked}
 use Rattle.normalize_tables.specs.News.{firstNumber, newsAt, namesAt, newPathsAt}
+use Rattle.normalize_tables.specs.NewByNumber.{newPathsTo, KeptTo}
 use Rattle.normalize_tables.specs.Rewritten.{NewRows, Folded}
-use Rattle.fold.specs.Makes.{nextAt, madeAt, Making}
+use Rattle.new_segs.specs.Makes.{nextAt, madeAt, Making}
 use Rattle.fold.specs.Turns.{Folds}
 use Rattle.fold.specs.Transforms.{AllKnown, TransformIs}
-use Rattle.fold.proofs.Keeping.{low-stands, source-low}
-use Rattle.fold.proofs.Lookups.{noSegment, segment-nth}
-use Rattle.fold.proofs.Growing.{folds-kept, all-known-kept}
+use Rattle.new_segs.proofs.Keeping.{low-stands, source-low}
+use Rattle.new_segs.proofs.Lookups.{noSegment}
+use Rattle.fold.proofs.Growing.{folds-kept, all-known-kept, frame-none}
 use Rattle.fold.proofs.Running.{count-cons}
 use Rattle.fold.proofs.Passing.{Passing}
 
 -- ---- the marks
 
--- a test by its bit
-bit-test : (t : Bool) → eqb (bit t) 1 ≡ t
-unfolding bit
-bit-test true = refl
-bit-test false = refl
-
 -- Where the marks are those of a test, the segments that pass it are folded.
 pub marks-fold : {text w : List ℕ} {b : Bases} {n : Counts} {g : Layout} (p : Segment → Bool) → Source text w b n g → Marked p text w b n (g .folded)
-    → Folds (segmentsAt text w (b .segs) (n .segs)) (keep p (segmentsAt text w (b .segs) (n .segs))) text w b n g
+    → Folds (segmentsOf text w b n) (keep p (segmentsOf text w b n)) text w b n g
 marks-fold {text} {w} {b} {n} {g} p s k = record { segs = refl; marks = marks }
   where
-    ss : List Segment
-    ss = segmentsAt text w (b .segs) (n .segs)
-
-    marks : (i : ℕ) (run : Run) → segmentNumber (segmentsAt text w (b .segs) (n .segs)) (run .step .name .bytes) ≡ some i → i < n .segs
-        → isFoldedRun (keep p (segmentsAt text w (b .segs) (n .segs))) run ≡ (isRepeat run && eqb (getD w (g .folded + i) 0) 1)
+    marks : (i : ℕ) (run : Run) → segmentNumber (segmentsOf text w b n) (run .step .name .bytes) ≡ some i → i < n .segs
+        → isFoldedRun (keep p (segmentsOf text w b n)) run ≡ (isRepeat run && eqb (getD w (g .folded + i) 0) 1)
     marks i run e h =
-        kept-run p (segmentsAt text w (b .segs) (n .segs)) noSegment run (unfold idsOf in s .apart)
-        ∙ rw (e, k .mark i h, bit-test (p (segmentAt text w (b .segs + 6 * i)))) (unfold Option·elim in rw (segment-nth text w (b .segs) (n .segs) i h))
+        kept-run p (segmentsOf text w b n) noSegment run (unfold idsOf in s .apart)
+        ∙ rw (e, k .mark i h, bit-set (p (segmentNo text w b i))) (unfold Option·elim in rw (segments-nth text w b (n .segs) i noSegment h))
 
 -- ---- before the first path
 
 module _ {text before first : List ℕ} {b : Bases} {n : Counts} {g : Layout} (s : Source text before b n g) (c : Cleared before first (g .last) (n .segs)) where
-  cleared-low : Kept 0 (g .last) before first
-  cleared-low = record { word = λ i l h. c .only .word i (inl h, tt) }
+  cleared-low : KeptTo (g .last) before first
+  cleared-low = record { word = λ i h. c .only .word i (inl h, tt) }
 
-  pub cleared-source : Source text first b n g
+  cleared-source : Source text first b n g
   cleared-source = source-low s cleared-low (c .long)
 
+  pub cleared-readable : Readable text first b n
+  cleared-readable = cleared-source .readable
+
   -- nothing is made
-  none-making : {f : ℕ} → f ≡ firstNumber (segmentsAt text first (b .segs) (n .segs)) → Making text first b n g f 0
+  none-making : {f : ℕ} → f ≡ firstNumber (segmentsOf text first b n) → Making text first b n g f 0
   none-making e =
       record {
         source = cleared-source;
@@ -85,7 +82,7 @@ module _ {text before first : List ℕ} {b : Bases} {n : Counts} {g : Layout} (s
         chained = record { back = λ j h. absurd (omega arith) };
       }
 
-  pub passing-start : {f : ℕ} → AllKnown text before b n → f ≡ firstNumber (segmentsAt text first (b .segs) (n .segs))
+  pub passing-start : {f : ℕ} → AllKnown text before b n → f ≡ firstNumber (segmentsOf text first b n)
       → Passing text first first b n g (record { first = f; segs = 0; steps = 0; runs = 0; changed = 0 }) 0
   passing-start {f} k e =
       record {
@@ -93,7 +90,7 @@ module _ {text before first : List ℕ} {b : Bases} {n : Counts} {g : Layout} (s
         known = all-known-kept s cleared-low k;
         high = omega arith;
         stage = record { making = none-making e; steps = each-none };
-        frame = record { long = refl; low = record { word = λ i l h. refl }; paths = record { word = λ i l h. refl }; steps = record { word = λ i l h. refl }; high = λ i h. refl };
+        frame = frame-none;
         done = 0;
         summed = summed-start;
         few = omega arith;
@@ -107,11 +104,11 @@ module _ {text before first : List ℕ} {b : Bases} {n : Counts} {g : Layout} (s
         changed = λ ss fs F. summed-start;
       }
     where
-      start : (ss fs : List Segment) → transformPaths ss fs (pathsAt text (b .steps) first (b .paths) (n .paths)) (noneMade ss)
-          ≡ beforePaths (newPathsAt (namesAt text first b n g f 0) (g .steps) first (g .paths) 0) (transformPaths ss fs (pathsAt text (b .steps) first (b .paths + 5 * 0) (n .paths - 0)) (madeAt ss text first b g f 0))
+      start : (ss fs : List Segment) → transformPaths ss fs (pathsTo text first b (n .paths)) (noneMade ss)
+          ≡ beforePaths (newPathsTo (namesAt text first b n g f 0) first g 0) (transformPaths ss fs (pathsFrom text first b n 0) (madeAt ss text first b g f 0))
       start ss fs =
-          paths-start ss fs (pathsAt text (b .steps) first (b .paths) (n .paths)) (noneMade ss)
-          ∙ (unfold pathsAt in rw (rows-all (pathAt text (b .steps)) 5 first (b .paths) (n .paths)) (unfold newPathsAt newsAt rowsAt madeAt nextAt noneMade in refl))
+          paths-start ss fs (pathsTo text first b (n .paths)) (noneMade ss)
+          ∙ rw (paths-all text first b n) (unfold newPathsAt newsAt rowsAt madeAt nextAt noneMade in refl)
 
 -- ---- behind the last path
 
@@ -136,32 +133,32 @@ module _ {text first work : List ℕ} {b : Bases} {n : Counts} {g : Layout} {m :
         paths = rw last at (s .rows);
       }
 
-  transformed : (ss fs : List Segment) → Folds ss fs text first b n g → transformPaths ss fs (pathsAt text (b .steps) first (b .paths) (n .paths)) (noneMade ss)
-      ≡ record { made = madeAt ss text work b g (m .first) (m .segs); paths = newPathsAt (namesAt text work b n g (m .first) (m .segs)) (g .steps) work (g .paths) (n .paths) }
+  transformed : (ss fs : List Segment) → Folds ss fs text first b n g → transformPaths ss fs (pathsTo text first b (n .paths)) (noneMade ss)
+      ≡ record { made = madeAt ss text work b g (m .first) (m .segs); paths = newPathsTo (namesAt text work b n g (m .first) (m .segs)) work g (n .paths) }
   transformed ss fs f =
-      s .left ss fs f ∙ (unfold pathsAt in rw (rows-none (pathAt text (b .steps)) 5 first (b .paths) (n .paths) p h, paths-end, last))
+      s .left ss fs f ∙ rw (paths-none text first b n p h, paths-end, last)
 
-  pub passing-end : (fs : List Segment) → Folds (segmentsAt text first (b .segs) (n .segs)) fs text first b n g → Folded text work b n g fs m
+  pub passing-end : (fs : List Segment) → Folds (segmentsOf text first b n) fs text first b n g → Folded text work b n g fs m
   passing-end fs f =
       let st = low-stands (s .source) (s .frame .low) in
-      let ss = segmentsAt text first (b .segs) (n .segs) in
+      let ss = segmentsOf text first b n in
       record {
         first = s .stage .making .first-is;
         news = rw (st .of-segments, st .of-paths) (sym (ap (λ (t : AllTransformed). t .made .new) (transformed ss fs f) ∙ (unfold madeAt in refl)));
         paths = rw (st .of-segments, st .of-paths) (sym (ap (λ (t : AllTransformed). t .paths) (transformed ss fs f)));
         steps = rw last at (s .steps);
         runs = rw (st .of-paths) (summed-end (s .runs ss fs f) h ∙ (unfold overRows foldedRuns in refl));
-        changed = rw (st .of-paths) (summed-end (s .changed ss fs f) h ∙ (unfold overRows in sym (count-bits (λ q. any (isFoldedRun fs) (runsOf (q .steps))) (pathsAt text (b .steps) first (b .paths) (n .paths)))));
+        changed = rw (st .of-paths) (summed-end (s .changed ss fs f) h ∙ (unfold overRows in sym (count-bits (λ q. any (isFoldedRun fs) (runsOf (q .steps))) (pathsTo text first b (n .paths)))));
       }
 
   -- the whole
   pub transform-is : {before : List ℕ} → Source text before b n g → Cleared before first (g .last) (n .segs) → TransformIs text before work b n g m
   transform-is {before} o c =
       record {
-        folds = λ t k. passing-end (keep t (segmentsAt text before (b .segs) (n .segs))) (rw (low-stands o (cleared-low o c) .of-segments) (folds-kept o (cleared-low o c) (marks-fold t o k)));
+        folds = λ t k. passing-end (keep t (segmentsOf text before b n)) (rw (low-stands o (cleared-low o c) .of-segments) (folds-kept o (cleared-low o c) (marks-fold t o k)));
         rows = passing-rows;
         long = s .frame .long ∙ c .long;
-        only = record { word = λ i l. ⊎-elim (λ k. s .frame .low .word i (omega arith) k ∙ c .only .word i (inl k, tt)) (λ k. s .frame .high i k ∙ c .only .word i (inr (behind i k), tt)) (l .0) };
+        only = record { word = λ i l. ⊎-elim (λ k. s .frame .low .word i k ∙ c .only .word i (inl k, tt)) (λ k. s .frame .high i k ∙ c .only .word i (inr (behind i k), tt)) (l .0) };
       }
     where
       behind : (i : ℕ) → g .added ≤ i → g .last + n .segs ≤ i

@@ -1,163 +1,168 @@
 -- What a run becomes in the tables. Assumes nothing.
-use Prim.Native.Nat.{ℕ, _+_, _*_, _-_, _≤_, _<_}
+use Prim.Native.Nat.{ℕ, _+_, _-_, _≤_, _<_}
 use native.Mathlib.Omega.{arith}
-use mathlib.Core.Bool.{Bool, true, false, _&&_}
+use mathlib.Core.Bool.{Bool, true, false}
 use mathlib.Core.List.{List, []}
 use mathlib.Core.Option.{none, some}
-use mathlib.Core.Path.{_≡_, refl, sym, ap, _∙_}
-use lib.Dec.{eqb, leb}
-use lib.ListN.{getD}
-use borrow.Author.Tests.{leb-true, le-leb}
+use mathlib.Core.Path.{_≡_, refl, sym, _∙_}
+use lib.Dec.{eqb}
+use lib.ListN.{length, getD}
+use borrow.Author.Tests.{le-leb, lt-leb}
 use Rattle.gfa_spec.specs.Bytes.{nth, copies}
 use Rattle.gfa_spec.specs.Reading.{Segment, isOrientation}
 use Rattle.gfa_spec.specs.Records.{segmentNumber}
 use Rattle.gfa_spec.specs.Runs.{Run, isRepeat, bit}
-use Rattle.gfa_spec.proofs.Tests.{refute, and-left}
-use Rattle.normalize_spec.specs.Folding.{isFoldedRun, madeFor, newSegment, onto, asNew, foldRun, keepRun, turn}
+use Rattle.normalize_spec.specs.Folding.{isFoldedRun, madeFor, onto, asNew, foldRun, keepRun, turn}
 use Rattle.scan.specs.Places.{partAt}
-use Rattle.work.proofs.Rows.{Kept, kept-within}
-use Rattle.gfa.specs.declared.segments.Found.{Found}
-use Rattle.gfa.specs.declared.segments.Found.the-variants.{At, Nothing}
-use Rattle.gfa.specs.declared.tables.Bases.{Bases}
-use Rattle.gfa.specs.declared.tables.Counts.{Counts}
-use Rattle.gfa.specs.Segments.{segmentsAt, foundAs, FoundIs}
-use Rattle.gfa.specs.Steps.{stepAt}
-use Rattle.gfa.specs.Passes.{StepThere}
-use Rattle.gfa.proofs.Spelled.{found-at, found-nothing}
+use Rattle.tables.specs.declared.segments.Found.{Found}
+use Rattle.tables.specs.declared.segments.Found.the-variants.{At, Nothing}
+use Rattle.tables.specs.declared.tables.Bases.{Bases}
+use Rattle.tables.specs.declared.tables.Counts.{Counts}
+use Rattle.tables.specs.declared.rows.Place.{Place}
+use Rattle.tables.specs.declared.rows.StepWords.{StepWords}
+use Rattle.tables.specs.ByNumber.{segmentNo, stepNo, segmentsOf, bytesIn, StepIs, NamedIs}
+use Rattle.tables.proofs.Numbers.{found-below}
 use Rattle.normalize_tables.specs.declared.layout.Layout.{Layout}
 use Rattle.normalize_tables.specs.declared.layout.Made.{Made}
 use Rattle.normalize_tables.specs.News.{newAt, namesAt}
-use Rattle.fold.specs.Chains.{MadeIs}
-use Rattle.fold.specs.Makes.{madeAt, SegmentMade}
-use Rattle.fold.specs.Turns.{StepsPut, KnownRow, UnitIs, Folds, Stage, Room, standsAt, OnUnit, FoldIs, KeepIs, TurnIs}
-use Rattle.fold.proofs.Lookups.{number-id, segment-nth}
-use Rattle.fold.proofs.Keeping.{step-rows-more}
-use Rattle.fold.proofs.Growing.{names-same, frame-then}
+use Rattle.normalize_tables.proofs.Numbered.{found-number, found-nothing}
+use Rattle.normalize_tables.proofs.NewsKept.{step-rows-kept}
+use Rattle.normalize_tables.specs.NewByNumber.{StepRoom}
+use Rattle.fold.specs.declared.turns.Target.{Target}
+use Rattle.new_segs.specs.Chains.{MadeIs}
+use Rattle.new_segs.specs.Makes.{madeAt, Wanted, Frame, SegmentMade}
+use Rattle.fold.specs.Turns.{StepsPut, FoldedIs, KnownIn, KnownStep, UnitIs, Folds, Stage, Room, standsAt, OnUnit, TargetIs, FoldIs, KeepIs, TurnIs}
+use Rattle.new_segs.proofs.Lookups.{number-name}
+use Rattle.fold.proofs.Growing.{names-same, frame-none, frame-less, frame-then}
 use Rattle.fold.proofs.Finding.{made-found, made-none, name-of-unit, name-of-new}
 use Rattle.fold.proofs.Putting.{put-names, put-made, put-frame, put-steps-are, put-stage}
 
 -- ---- the segment of a step
 
-module _ (text work : List ℕ) (b : Bases) (n : Counts) (at : ℕ) {name size : ℕ} {r : Found} (p : name ≡ getD work at 0) (q : size ≡ getD work (at + 1) 0)
-    (f : FoundIs text work (b .segs) (n .segs) name size r) where
-  answered : r ≡ foundAs (segmentNumber (segmentsAt text work (b .segs) (n .segs)) (stepAt text work at .name .bytes))
-  unfolding stepAt partAt
-  answered = f .answer ∙ rw (p, q)
+module _ {text work : List ℕ} (b : Bases) (n : Counts) {name : Place} {r : Found} (f : NamedIs text work b n name r) where
+  pub unit-found : {k : ℕ} → r ≡ At (record { 0 = k }) → UnitIs text work b n name k
+  unit-found e = record { is = found-number f e; below = found-below f e }
 
-  pub unit-found : {k : ℕ} → r ≡ At (record { 0 = k }) → UnitIs text work b n at k
-  unit-found {k} e = record { is = found-at (segmentNumber (segmentsAt text work (b .segs) (n .segs)) (stepAt text work at .name .bytes)) k (sym answered ∙ e); below = rw e at (f .below) }
+  pub unit-missing : r ≡ Nothing → KnownIn (segmentsOf text work b n) (bytesIn text name) → ⊥
+  unit-missing e k = let z : _≡_ {A = ℕ} 0 1 = cc (found-nothing f e, k .is) in omega arith
 
-  pub unit-missing : r ≡ Nothing → KnownRow text b n work at → ⊥
-  unit-missing e k =
-      let none-there = found-nothing (segmentNumber (segmentsAt text work (b .segs) (n .segs)) (stepAt text work at .name .bytes)) (sym answered ∙ e) in
-      let z : _≡_ {A = ℕ} 0 1 = cc (none-there, k .is) in omega arith
+-- the name of a step that is known
+pub step-known : {text work : List ℕ} {b : Bases} (n : Counts) {i : ℕ} {s : StepWords} → KnownStep text work b n i → StepIs text work b i s
+    → KnownIn (segmentsOf text work b n) (bytesIn text (s .name))
+unfolding partAt
+step-known n k q = rw (q .step) at k
 
 -- ---- a run that is folded
 
-module _ {text w w' : List ℕ} {b : Bases} {n : Counts} {g : Layout} {m : Made} {unit count mark : ℕ} (s : Stage text w b n g m) (room : Room n m count) (h : unit < n .segs) where
-  -- into a step on a segment that was made
-  module _ (two : 2 ≤ count) (o : isOrientation mark ≡ true) {j : ℕ} (f : MadeIs w (g .segs) (m .segs) unit count j) (l : 0 < j) (u : StepsPut w w' (g .steps + 2 * m .steps) (n .segs + (j - 1)) mark 1) where
-    again : Made
-    again = record { first = m .first; segs = m .segs; steps = m .steps + 1; runs = m .runs + 1; changed = m .changed }
+module _ {text w : List ℕ} {b : Bases} {n : Counts} {g : Layout} {m : Made} {unit count j : ℕ} (s : Stage text w b n g m) (room : Room n m count) (h : unit < n .segs) (two : 2 ≤ count)
+    (f : MadeIs w g (m .segs) unit count j) where
+  -- there is room for a step behind the others
+  step-room : (w' : List ℕ) → length w' ≡ length w → StepRoom w' g (m .steps + 1)
+  step-room w' e = let p = s .making .source .placed in omega (arith, p .added, p .ends, p .room, room .few)
 
-    again-fits : m .steps + 1 ≤ n .steps
-    again-fits = omega (arith, room .few)
+  step-small : {node : ℕ} → node ≤ n .segs + m .segs → (node < 4294967296) × (m .steps < 4294967296) × (m .runs < 4294967296)
+  step-small l = let k = s .making .source .readable .few in (omega (arith, k .1, k .4, s .making .half), omega (arith, k .4, room .few), omega (arith, k .4, room .runs))
 
-    again-folded : (run : Run) → OnUnit text w b unit count mark run
-        → foldRun (segmentsAt text w (b .segs) (n .segs)) run (madeAt (segmentsAt text w (b .segs) (n .segs)) text w b g (m .first) (m .segs))
-        ≡ standsAt (segmentsAt text w (b .segs) (n .segs)) text w' b n g again (m .steps)
-    unfolding again standsAt foldRun onto
-    again-folded run q =
-        let found : madeFor (run .step .name .bytes) (run .count) (madeAt (segmentsAt text w (b .segs) (n .segs)) text w b g (m .first) (m .segs) .new) ≡ some (newAt text b g (m .first) w (j - 1) .id) =
-        unfold madeAt in rw (q .name, q .times) (made-found (s .making) unit count h f l) in
-        let left : m .steps + 1 - m .steps ≡ 1 = omega arith in
-        rw (found, foldRun, put-made s again-fits u (segmentsAt text w (b .segs) (n .segs)), left, put-steps-are s again-fits u, name-of-new text w b n g (m .first) (m .segs) (j - 1) (omega (arith, f .below)), q .orientation)
-        (unfold copies in refl)
+  made-folded : (j ≡ 0 → ⊥) → (run : Run) → run .step .name .bytes ≡ segmentNo text w b unit .id → run .count ≡ count
+      → foldRun (segmentsOf text w b n) run (madeAt (segmentsOf text w b n) text w b g (m .first) (m .segs))
+      ≡ onto run (nth (n .segs + (j - 1)) (namesAt text w b n g (m .first) (m .segs)) []) (madeAt (segmentsOf text w b n) text w b g (m .first) (m .segs))
+  unfolding foldRun
+  made-folded l run e c =
+      let found : madeFor (run .step .name .bytes) (run .count) (madeAt (segmentsOf text w b n) text w b g (m .first) (m .segs) .new) ≡ some (newAt text b g (m .first) w (j - 1) .id) =
+      unfold madeAt in rw (e, c) (made-found (s .making) unit count h f (omega arith)) in
+      rw (found, foldRun, name-of-new text w b n g (m .first) (m .segs) (j - 1) (omega (arith, f .below)))
 
-    pub fold-again : FoldIs text w w' b n g m unit count mark (record { first = m .first; segs = m .segs; steps = m .steps + 1; runs = m .runs + 1; changed = m .changed })
-    unfolding again
-    fold-again =
-        record {
-          grown =
-              record {
-                stage = put-stage s again-fits u (m .runs + 1) (m .changed) (omega (arith, f .below)) o;
-                first = refl;
-                low = (omega arith, omega arith, omega arith);
-                few = omega arith;
-                half = omega arith;
-                runs = omega arith;
-                names = names-same (put-names s again-fits u);
-                frame = put-frame s again-fits u;
-              };
-          changed = refl;
-          runs = refl;
-          folded = again-folded;
-        }
+  -- its segment was made
+  pub target-made : (j ≡ 0 → ⊥) → TargetIs text w w b n g m unit count (record { node = n .segs + (j - 1); segs = m .segs })
+  target-made l =
+      record {
+        stage = record { making = s .making; steps = s .steps };
+        node = omega (arith, f .below);
+        segs = (omega arith, omega arith);
+        names = record { same-name = λ k i. refl };
+        frame = frame-none;
+        folded = made-folded l;
+        room = step-room w refl;
+        small = step-small (omega (arith, f .below));
+      }
 
-  -- into a step on a segment that is made for it
-  module _ (two : 2 ≤ count) (o : isOrientation mark ≡ true) {w₁ : List ℕ} (f : MadeIs w (g .segs) (m .segs) unit count 0) (a : SegmentMade text w w₁ b n g (m .first) (m .segs) unit count)
-      (u : StepsPut w₁ w' (g .steps + 2 * m .steps) (n .segs + m .segs) mark 1) where
-    -- the state between
-    one-more : Made
-    one-more = record { first = m .first; segs = m .segs + 1; steps = m .steps; runs = m .runs; changed = m .changed }
+  module _ (z : j ≡ 0) where
+    -- there is none: a new one is wanted
+    pub target-wanted : Wanted text w b n g (m .first) (m .segs) unit count
+    target-wanted = record { making = s .making; there = h; few = omega (arith, room .few); room = omega (arith, room .half); fresh = rw z at f }
 
-    steps-stay : Kept (g .steps) (g .steps + 2 * m .steps) w w₁
-    steps-stay = kept-within (g .steps) (g .steps + 2 * m .steps) (a .frame .steps) (omega arith) (omega (arith, room .few))
-
-    stage-between : Stage text w₁ b n g one-more
-    unfolding one-more
-    stage-between = record { making = a .making; steps = step-rows-more (n .segs + (m .segs + 1)) (s .steps) steps-stay (omega arith) }
-
-    new-fits : m .steps + 1 ≤ n .steps
-    new-fits = omega (arith, room .few)
-
-    new-folded : (run : Run) → OnUnit text w b unit count mark run
-        → foldRun (segmentsAt text w (b .segs) (n .segs)) run (madeAt (segmentsAt text w (b .segs) (n .segs)) text w b g (m .first) (m .segs))
-        ≡ standsAt (segmentsAt text w (b .segs) (n .segs)) text w' b n g (record { first = m .first; segs = m .segs + 1; steps = m .steps + 1; runs = m .runs + 1; changed = m .changed }) (m .steps)
-    unfolding one-more standsAt foldRun onto
-    new-folded run q =
-        let ss = segmentsAt text w (b .segs) (n .segs) in
+    new-folded : {v : List ℕ} → SegmentMade text w v b n g (m .first) (m .segs) unit count → (run : Run) → run .step .name .bytes ≡ segmentNo text w b unit .id → run .count ≡ count
+        → foldRun (segmentsOf text w b n) run (madeAt (segmentsOf text w b n) text w b g (m .first) (m .segs))
+        ≡ onto run (nth (n .segs + m .segs) (namesAt text v b n g (m .first) (m .segs + 1)) []) (madeAt (segmentsOf text w b n) text v b g (m .first) (m .segs + 1))
+    unfolding foldRun
+    new-folded {v} a run e c =
+        let ss = segmentsOf text w b n in
         let none-found : madeFor (run .step .name .bytes) (run .count) (madeAt ss text w b g (m .first) (m .segs) .new) ≡ none =
-        unfold madeAt in rw (q .name, q .times) (made-none (s .making) unit count h f refl) in
-        let left : m .steps + 1 - m .steps ≡ 1 = omega arith in
-        let id : nth (n .segs + m .segs) (namesAt text w₁ b n g (m .first) (m .segs + 1)) [] ≡ newSegment ss run (madeAt ss text w b g (m .first) (m .segs)) .id =
-        name-of-new text w₁ b n g (m .first) (m .segs + 1) (m .segs) (omega arith) ∙ rw (a .new run (q .name) (q .times)) in
-        rw (none-found, foldRun, put-made stage-between new-fits u ss, left, put-steps-are stage-between new-fits u, id, a .made run (q .name) (q .times), q .orientation)
-        (unfold copies in refl)
+        unfold madeAt in rw (e, c) (made-none (s .making) unit count h f z) in
+        rw (none-found, foldRun, name-of-new text v b n g (m .first) (m .segs + 1) (m .segs) (omega arith), a .new run e c, a .made run e c)
 
-    pub fold-new : FoldIs text w w' b n g m unit count mark (record { first = m .first; segs = m .segs + 1; steps = m .steps + 1; runs = m .runs + 1; changed = m .changed })
-    unfolding one-more
-    fold-new =
+    -- and was made
+    pub target-new : {v : List ℕ} → SegmentMade text w v b n g (m .first) (m .segs) unit count → TargetIs text w v b n g m unit count (record { node = n .segs + m .segs; segs = m .segs + 1 })
+    target-new {v} a =
         record {
-          grown =
-              record {
-                stage = put-stage stage-between new-fits u (m .runs + 1) (m .changed) (omega arith) o;
-                first = refl;
-                low = (omega arith, omega arith, omega arith);
-                few = omega arith;
-                half = omega arith;
-                runs = omega arith;
-                names = record { same-name = λ k l. rw (put-names stage-between new-fits u) (a .names .same-name k l) };
-                frame = frame-then (record { long = a .frame .long; low = a .frame .low; paths = a .frame .paths; steps = steps-stay; high = a .frame .high }) (put-frame stage-between new-fits u);
-              };
-          changed = refl;
-          runs = refl;
-          folded = new-folded;
+          stage = record { making = a .making; steps = step-rows-kept g (n .segs + (m .segs + 1)) (s .steps) (frame .steps) (omega arith) };
+          node = omega arith;
+          segs = (omega arith, omega arith);
+          names = a .names;
+          frame = frame;
+          folded = new-folded a;
+          room = step-room v (a .frame .long);
+          small = step-small (omega arith);
         }
+      where
+        frame : Frame g (n .paths) (m .steps) w v
+        frame = frame-less (n .paths) (m .steps) (a .frame) (omega arith) (omega (arith, room .few))
 
-  -- ---- a run that is kept
+-- a step on it
+module _ {text w v w' : List ℕ} {b : Bases} {n : Counts} {g : Layout} {m : Made} {unit count mark : ℕ} {t : Target} (room : Room n m count) (two : 2 ≤ count) (o : isOrientation mark ≡ true)
+    (a : TargetIs text w v b n g m unit count t) (u : StepsPut v w' g (m .steps) (record { node = t .node; mark = mark }) 1) where
+  fits : m .steps + 1 ≤ n .steps
+  fits = omega (arith, room .few)
 
-  module _ (o : isOrientation mark ≡ true) (u : StepsPut w w' (g .steps + 2 * m .steps) unit mark count) where
+  pub fold-is : FoldIs text w w' b n g m unit count mark (record { first = m .first; segs = t .segs; steps = m .steps + 1; runs = m .runs + 1; changed = m .changed })
+  fold-is =
+      record {
+        grown =
+            record {
+              stage = put-stage (a .stage) fits u (m .runs + 1) (m .changed) (a .node) o;
+              first = refl;
+              low = (a .segs .0, omega arith, omega arith);
+              few = omega (arith, a .segs);
+              half = omega (arith, a .segs);
+              runs = omega arith;
+              names = record { same-name = λ k l. rw (put-names (a .stage) fits u) (a .names .same-name k l) };
+              frame = frame-then (a .frame) (put-frame (a .stage) fits u);
+            };
+        changed = refl;
+        runs = refl;
+        folded = folded;
+      }
+    where
+      folded : (run : Run) → OnUnit text w b unit count mark run
+          → foldRun (segmentsOf text w b n) run (madeAt (segmentsOf text w b n) text w b g (m .first) (m .segs))
+          ≡ standsAt (segmentsOf text w b n) text w' b n g (record { first = m .first; segs = t .segs; steps = m .steps + 1; runs = m .runs + 1; changed = m .changed }) (m .steps)
+      folded run q =
+          a .folded run (q .name) (q .times)
+          ∙ (unfold standsAt onto in rw (put-made (a .stage) fits u (segmentsOf text w b n), put-steps-are (a .stage) fits u, q .orientation) (unfold copies in refl))
+
+-- ---- a run that is kept
+
+module _ {text w w' : List ℕ} {b : Bases} {n : Counts} {g : Layout} {m : Made} {unit count mark : ℕ} (s : Stage text w b n g m) (room : Room n m count) (h : unit < n .segs) where
+  module _ (o : isOrientation mark ≡ true) (u : StepsPut w w' g (m .steps) (record { node = unit; mark = mark }) count) where
     keep-fits : m .steps + count ≤ n .steps
     keep-fits = omega (arith, room .few)
 
     keep-steps : (run : Run) → OnUnit text w b unit count mark run
-        → keepRun run (madeAt (segmentsAt text w (b .segs) (n .segs)) text w b g (m .first) (m .segs))
-        ≡ standsAt (segmentsAt text w (b .segs) (n .segs)) text w' b n g (record { first = m .first; segs = m .segs; steps = m .steps + count; runs = m .runs; changed = m .changed }) (m .steps)
+        → keepRun run (madeAt (segmentsOf text w b n) text w b g (m .first) (m .segs))
+        ≡ standsAt (segmentsOf text w b n) text w' b n g (record { first = m .first; segs = m .segs; steps = m .steps + count; runs = m .runs; changed = m .changed }) (m .steps)
     unfolding keepRun asNew standsAt
     keep-steps run q =
-        let left : m .steps + count - m .steps ≡ count = omega arith in
-        rw (put-made s keep-fits u (segmentsAt text w (b .segs) (n .segs)), left, put-steps-are s keep-fits u, name-of-unit text w b n g (m .first) (m .segs) unit h, q .name, q .times, q .orientation)
+        rw (put-made s keep-fits u (segmentsOf text w b n), put-steps-are s keep-fits u, name-of-unit text w b n g (m .first) (m .segs) unit h, q .name, q .times, q .orientation)
 
     pub keep-is : KeepIs text w w' b n g m unit count mark (record { first = m .first; segs = m .segs; steps = m .steps + count; runs = m .runs; changed = m .changed })
     keep-is =
@@ -180,50 +185,44 @@ module _ {text w w' : List ℕ} {b : Bases} {n : Counts} {g : Layout} {m : Made}
 
 -- ---- a run
 
--- the run whose first row is at the word `at`
-abbrev runAt : List ℕ → List ℕ → ℕ → ℕ → Run
-runAt text w at count = record { step = stepAt text w at; count = count }
+-- the run of `count` steps from step i on
+abbrev runAt : List ℕ → List ℕ → Bases → ℕ → ℕ → Run
+runAt text w b i count = record { step = stepNo text w b i; count = count }
 
-module _ {text w : List ℕ} {b : Bases} {n : Counts} {at unit mark : ℕ} {t : Bool} (g : Layout) (count : ℕ) (u : UnitIs text w b n at unit) (e : mark ≡ getD w (at + 2) 0)
-    (f : t ≡ (leb 2 count && eqb (getD w (g .folded + unit) 0) 1)) where
-  on-unit : OnUnit text w b unit count mark (runAt text w at count)
-  on-unit =
-      record {
-        name = sym (number-id (segmentsAt text w (b .segs) (n .segs)) (stepAt text w at .name .bytes) unit (u .is)) ∙ ap (λ (s : Segment). s .id) (segment-nth text w (b .segs) (n .segs) unit (u .below));
-        times = refl;
-        orientation = unfold stepAt in sym e;
-      }
+module _ {text w : List ℕ} {b : Bases} {n : Counts} {i unit : ℕ} {x : StepWords} {t : Bool} {g : Layout} {count : ℕ} (e : StepIs text w b i x) (u : UnitIs text w b n (x .name) unit)
+    (f : FoldedIs w g unit count t) where
+  number-is : segmentNumber (segmentsOf text w b n) (stepNo text w b i .name .bytes) ≡ some unit
+  unfolding partAt
+  number-is = rw (e .step) (u .is)
 
-  by-marks : (ss fs : List Segment) → Folds ss fs text w b n g → isFoldedRun fs (runAt text w at count) ≡ t
+  on-unit : OnUnit text w b unit count (x .mark) (runAt text w b i count)
+  on-unit = record { name = number-name text w b n unit (u .below) (stepNo text w b i .name .bytes) number-is; times = refl; orientation = rw (e .step) }
+
+  by-marks : (ss fs : List Segment) → Folds ss fs text w b n g → isFoldedRun fs (runAt text w b i count) ≡ t
   unfolding isRepeat
-  by-marks ss fs F = F .marks unit (runAt text w at count) (rw (F .segs) at (u .is)) (u .below) ∙ sym f
+  by-marks ss fs F = F .marks unit (runAt text w b i count) (rw (F .segs) at number-is) (u .below) ∙ sym (f .answer)
 
   -- that is folded
-  pub turn-folded : {w' : List ℕ} {m r : Made} → t ≡ true → FoldIs text w w' b n g m unit count mark r → TurnIs text w w' b n g m at count r
+  pub turn-folded : {w' : List ℕ} {m r : Made} → t ≡ true → FoldIs text w w' b n g m unit count (x .mark) r → TurnIs text w w' b n g m i count r
   turn-folded {w'} {m} {r} y q = record { grown = q .grown; changed = q .changed; turned = turned; runs = λ ss fs F. q .runs ∙ rw (by-marks ss fs F, y) (unfold bit in refl) }
     where
-      turned : (ss fs : List Segment) → Folds ss fs text w b n g → turn ss fs (runAt text w at count) (madeAt ss text w b g (m .first) (m .segs)) ≡ standsAt ss text w' b n g r (m .steps)
-      turned ss fs F = unfold turn in rw (by-marks ss fs F, y) (rw (F .segs) at (q .folded (runAt text w at count) on-unit))
+      turned : (ss fs : List Segment) → Folds ss fs text w b n g → turn ss fs (runAt text w b i count) (madeAt ss text w b g (m .first) (m .segs)) ≡ standsAt ss text w' b n g r (m .steps)
+      turned ss fs F = unfold turn in rw (by-marks ss fs F, y) (rw (F .segs) at (q .folded (runAt text w b i count) on-unit))
 
   -- that is kept
-  pub turn-kept : {w' : List ℕ} {m r : Made} → t ≡ false → KeepIs text w w' b n g m unit count mark r → TurnIs text w w' b n g m at count r
+  pub turn-kept : {w' : List ℕ} {m r : Made} → t ≡ false → KeepIs text w w' b n g m unit count (x .mark) r → TurnIs text w w' b n g m i count r
   turn-kept {w'} {m} {r} y q = record { grown = q .grown; changed = q .changed; turned = turned; runs = λ ss fs F. q .runs ∙ rw (by-marks ss fs F, y) (unfold bit in omega arith) }
     where
-      turned : (ss fs : List Segment) → Folds ss fs text w b n g → turn ss fs (runAt text w at count) (madeAt ss text w b g (m .first) (m .segs)) ≡ standsAt ss text w' b n g r (m .steps)
-      turned ss fs F = unfold turn in rw (by-marks ss fs F, y) (rw (F .segs) at (q .kept (runAt text w at count) on-unit))
+      turned : (ss fs : List Segment) → Folds ss fs text w b n g → turn ss fs (runAt text w b i count) (madeAt ss text w b g (m .first) (m .segs)) ≡ standsAt ss text w' b n g r (m .steps)
+      turned ss fs F = unfold turn in rw (by-marks ss fs F, y) (rw (F .segs) at (q .kept (runAt text w b i count) on-unit))
 
--- a run that is folded has two steps or more
-pub turn-two : {t : Bool} (count : ℕ) (a : Bool) → t ≡ (leb 2 count && a) → t ≡ true → 2 ≤ count
-turn-two count a f y = leb-true 2 count (and-left (leb 2 count) a (sym f ∙ y))
+-- ---- whether it is folded
 
--- its orientation is one
-pub turn-mark : {text w : List ℕ} {at mark : ℕ} → StepThere text w at → mark ≡ getD w (at + 2) 0 → isOrientation mark ≡ true
-turn-mark s e = rw e (s .row .mark)
+module _ {work : List ℕ} {g : Layout} {unit count : ℕ} where
+  -- fewer than two steps are not
+  pub too-few : count < 2 → FoldedIs work g unit count false
+  too-few h = record { answer = rw (lt-leb 2 count h); long = λ e. let z : _≡_ {A = ℕ} 0 1 = cc in absurd (omega arith) }
 
--- fewer than two steps are not folded
-pub too-few : (count : ℕ) (t : Bool) → count < 2 → false ≡ (leb 2 count && t)
-too-few count t h = let l : leb 2 count ≡ false = refute (leb 2 count) (λ e. let k = leb-true 2 count e in absurd (omega arith)) in rw l
-
--- two or more are where the mark says so
-pub enough : (count : ℕ) (t : Bool) → 2 ≤ count → t ≡ (leb 2 count && t)
-enough count t h = rw (le-leb 2 count h)
+  -- two or more are where the mark says so
+  pub enough : {mark : ℕ} → 2 ≤ count → mark ≡ getD work (g .folded + unit) 0 → FoldedIs work g unit count (eqb mark 1)
+  enough h e = record { answer = rw (le-leb 2 count h, e); long = λ t. h }

@@ -1,6 +1,4 @@
-// Rule 4 of "Folding" over the tables: new segments, and the new paths over them.
-pub mod chains;
+// Rule 4 of "Folding" over the tables: the new paths, and their pairs.
 pub mod pairs;
 pub mod paths;
-pub mod segs;
 pub mod turns;

@@ -1,56 +1,37 @@
 // The adjacent pairs of the new paths (document 01, the counters of "Folding").
-ghost use mathlib.Core.Bool.{_&&_};
-ghost use mathlib.Core.Path.{_≡_};
-ghost use Prim.Native.Nat.{_+_, _*_, _≤_, _<_};
-ghost use lib.Dec.{eqb};
-ghost use lib.ListN.{length, getD};
-ghost use Rattle.gfa_spec.specs.Runs.{bit};
-ghost use Rattle.gfa.specs.Tables.{Few};
+ghost use Prim.Native.Nat.{_≤_};
+ghost use lib.ListN.{length};
+ghost use Rattle.tables.specs.Tables.{Few};
 ghost use Rattle.normalize_tables.specs.Layout.{Placed};
 ghost use Rattle.normalize_tables.specs.Rewritten.{NewRows};
 ghost use Rattle.fold.specs.Pairings.{NewPairsIs, NewPairTotals};
-use gfa::counts::Pairs;
-use gfa::tables::Bases;
-use gfa::tables::Counts;
+use normalize_tables::layout::Area;
 use normalize_tables::layout::Layout;
 use normalize_tables::layout::Made;
-use work::work::word;
+use normalize_tables::rows::new_path_at;
+use normalize_tables::rows::new_step_at;
+use normalize_tables::rows::same_new_step;
+use runs::counts::Pairs;
+use runs::counts::bit_of;
+use tables::entry::PathNo;
+use tables::tables::Bases;
+use tables::tables::Counts;
 
-// 1 where the words at `a` and `b` are equal, else 0.
-fn equal_words(work: &[u32], a: usize, b: usize) -> usize
-    requires { ⌜ (a < length (now work)) × (b < length (now work)) ⌝ }
-    ensures { λ r. ⌜ (r ≡ bit (eqb (getD (now (work .entry)) a 0) (getD (now (work .entry)) b 0))) × (r ≤ 1) ⌝ }
-{
-    if word(work, a) == word(work, b) {
-        return 1;
-    }
-    0
-}
-
-// 1 where the new steps at the words `a` and `b` are equal, else 0.
-fn equal_steps(work: &[u32], a: usize, b: usize) -> usize
-    requires { ⌜ (a + 1 < length (now work)) × (b + 1 < length (now work)) ⌝ }
-    ensures { λ r. ⌜ (r ≡ bit (eqb (getD (now (work .entry)) a 0) (getD (now (work .entry)) b 0) && eqb (getD (now (work .entry)) (a + 1) 0) (getD (now (work .entry)) (b + 1) 0))) × (r ≤ 1) ⌝ }
-{
-    if word(work, a) == word(work, b) {
-        return equal_words(work, a + 1, b + 1);
-    }
-    0
-}
-
-// The adjacent pairs of the `count` new steps whose rows start at the word `at`.
-pub fn count_new_pairs(work: &[u32], at: usize, count: usize) -> Pairs
-    requires { ⌜ at + 2 * count ≤ length (now work) ⌝ }
-    ensures { λ r. ⌜ NewPairsIs (now (work .entry)) at count r ⌝ }
+// The adjacent pairs of the new steps from `first` up to, not including, `end`.
+pub fn count_new_pairs(work: &[u32], a: Area, first: usize, end: usize) -> Pairs
+    requires { ⌜ NewRows (now work) (a .n) (a .g) (a .m) × Placed (a .b) (a .n) (a .g) (length (now work)) × Few (a .n) ⌝ }
+    requires { ⌜ (first ≤ end) × (end ≤ a .m .steps) ⌝ }
+    ensures { λ r. ⌜ NewPairsIs (now (work .entry)) (a .n) (a .g) (a .m) first end r ⌝ }
 {
     let mut nodes = 0;
     let mut steps = 0;
-    let mut j = 1;
-    while j < count {
-        let here = at + 2 * j;
-        nodes += equal_words(work, here - 2, here);
-        steps += equal_steps(work, here - 2, here);
-        j += 1;
+    let mut k = first + 1;
+    while k < end {
+        let s = new_step_at(work, a, k - 1);
+        let t = new_step_at(work, a, k);
+        nodes += bit_of(s.node == t.node);
+        steps += bit_of(same_new_step(s, t));
+        k += 1;
     }
     Pairs { nodes, steps }
 }
@@ -61,14 +42,13 @@ pub fn new_pairs(work: &[u32], b: Bases, n: Counts, g: Layout, m: Made) -> Pairs
     requires { ⌜ Placed b n g (length (now work)) × Few n ⌝ }
     ensures { λ r. ⌜ NewPairTotals (now (work .entry)) n g m r ⌝ }
 {
+    let a = Area { b, n, g, m };
     let mut nodes = 0;
     let mut steps = 0;
     let mut i = 0;
     while i < n.paths {
-        let at = g.paths + 2 * i;
-        let first = word(work, at);
-        let count = word(work, at + 1);
-        let more = count_new_pairs(work, g.steps + 2 * first, count);
+        let path = new_path_at(work, a, PathNo(i as u32));
+        let more = count_new_pairs(work, a, path.first, path.end);
         nodes += more.nodes;
         steps += more.steps;
         i += 1;

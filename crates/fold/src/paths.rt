@@ -1,25 +1,25 @@
 // What the paths become, run by run (document 01, "Folding", rule 4).
 ghost use mathlib.Core.Path.{_≡_};
-ghost use Prim.Native.Nat.{_+_, _*_, _≤_, _<_};
-ghost use lib.Dec.{ltb};
-ghost use Rattle.gfa_spec.specs.Runs.{bit};
-ghost use Rattle.work.specs.Rows.{EachRow};
-ghost use Rattle.gfa.specs.Steps.{StepRow};
+ghost use Prim.Native.Nat.{_-_, _≤_, _<_};
 ghost use Rattle.normalize_tables.specs.Layout.{Source};
-ghost use Rattle.fold.specs.Turns.{KnownRow, Stage, Room, PathIs, NextIs};
+ghost use Rattle.fold.specs.Turns.{KnownSteps, Stage, Room, StepsTurned, withPath, NextIs};
 ghost use Rattle.fold.specs.Transforms.{AllKnown, PathReady, TransformIs};
 use crate::turns::turn_run;
-use gfa::runs::run_end;
-use gfa::tables::Bases;
-use gfa::tables::Counts;
 use new_ids::ids::first_number;
+use normalize_tables::layout::Area;
 use normalize_tables::layout::Layout;
 use normalize_tables::layout::Made;
+use normalize_tables::rows::NewPathWords;
+use normalize_tables::rows::put_new_path;
+use runs::counts::bit_of;
+use runs::runs::run_from;
+use tables::entry::PathNo;
+use tables::rows::path_at;
+use tables::tables::Bases;
+use tables::tables::Counts;
 use work::work::clear_words;
-use work::work::put_row;
-use work::work::word;
 
-// Turns the runs of the `count` steps whose rows start at the word `base`.
+// Turns the runs of the steps from `first` up to, not including, `end`.
 pub fn transform_path_steps(
     text: &[u8],
     work: &mut [u32],
@@ -27,31 +27,35 @@ pub fn transform_path_steps(
     n: Counts,
     g: Layout,
     m: Made,
-    base: usize,
-    count: usize,
+    first: usize,
+    end: usize,
 ) -> Made
-    requires { ⌜ Stage (now text) (now work) b n g m × Room n m count ⌝ }
-    requires { ⌜ (base + 3 * count ≤ b .steps + 3 * n .steps) × EachRow (StepRow (now text)) 3 (now work) base count × EachRow (KnownRow (now text) b n) 3 (now work) base count ⌝ }
-    ensures { λ r. ⌜ PathIs (now (text .entry)) (now (work .entry)) (now (work .exit)) b n g m base count r ⌝ }
+    requires { ⌜ Stage (now text) (now work) b n g m × Room n m (end - first) ⌝ }
+    requires { ⌜ (first ≤ end) × (end ≤ n .steps) × KnownSteps (now text) (now work) b n first end ⌝ }
+    ensures { λ r. ⌜ StepsTurned (now (text .entry)) (now (work .entry)) (now (work .exit)) b n g m first end r ⌝ }
 {
     let mut made = m;
-    let mut i = 0;
-    while i < count {
-        let end = run_end(text, work, base, i, count);
-        made = turn_run(text, work, b, n, g, made, base + 3 * i, end - i);
-        i = end;
+    let mut i = first;
+    while i < end {
+        let next = run_from(text, work, b, n, i, end);
+        made = turn_run(text, work, Area { b, n, g, m: made }, i, next - i);
+        i = next;
     }
     made
 }
 
-// 1 where `a` is below `b`, else 0.
-fn less_bit(a: usize, b: usize) -> usize
-    ensures { λ r. ⌜ (r ≡ bit (ltb a b)) × (r ≤ 1) ⌝ }
+// What was made with one path more, which is changed where runs of it were folded: before it there was `m`.
+fn with_path(m: Made, t: Made) -> Made
+    requires { ⌜ m .changed < 4294967296 ⌝ }
+    ensures { λ r. ⌜ r ≡ withPath m t ⌝ }
 {
-    if a < b {
-        return 1;
+    Made {
+        first: t.first,
+        segs: t.segs,
+        steps: t.steps,
+        runs: t.runs,
+        changed: m.changed + bit_of(m.runs < t.runs),
     }
-    0
 }
 
 // Transforms path `p`: its new steps are put behind the others, and its row.
@@ -62,23 +66,23 @@ pub fn transform_path(
     n: Counts,
     g: Layout,
     m: Made,
-    p: usize,
+    p: PathNo,
 ) -> Made
-    requires { ⌜ Stage (now text) (now work) b n g m × PathReady (now text) (now work) b n m p ⌝ }
-    ensures { λ r. ⌜ NextIs (now (text .entry)) (now (work .entry)) (now (work .exit)) b n g m p r ⌝ }
+    requires { ⌜ Stage (now text) (now work) b n g m × PathReady (now text) (now work) b n m (p .0) ⌝ }
+    ensures { λ r. ⌜ NextIs (now (text .entry)) (now (work .entry)) (now (work .exit)) b n g m (p .0) r ⌝ }
 {
-    let at = b.paths + 5 * p;
-    let first = word(work, at + 3);
-    let count = word(work, at + 4);
-    let t = transform_path_steps(text, work, b, n, g, m, b.steps + 3 * first, count);
-    put_row(work, g.paths + 2 * p, &[m.steps, t.steps - m.steps]);
-    Made {
-        first: t.first,
-        segs: t.segs,
-        steps: t.steps,
-        runs: t.runs,
-        changed: m.changed + less_bit(m.runs, t.runs),
-    }
+    let path = path_at(text, work, b, n, p);
+    let t = transform_path_steps(text, work, b, n, g, m, path.first, path.end);
+    put_new_path(
+        work,
+        g,
+        p,
+        NewPathWords {
+            first: m.steps,
+            end: t.steps,
+        },
+    );
+    with_path(m, t)
 }
 
 // Transforms all paths: new segments, new steps and new paths are put into their tables.
@@ -97,7 +101,7 @@ pub fn transform(text: &[u8], work: &mut [u32], b: Bases, n: Counts, g: Layout) 
     };
     let mut p = 0;
     while p < n.paths {
-        m = transform_path(text, work, b, n, g, m, p);
+        m = transform_path(text, work, b, n, g, m, PathNo(p as u32));
         p += 1;
     }
     m

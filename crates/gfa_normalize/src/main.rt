@@ -1,12 +1,12 @@
 // Prints standard input, which has at most 2,048 bytes, normalized with no cap; or the lines of a refusal.
-use console::put_refusal;
-use console::show;
-use gfa::services::plain;
-use normalize::services::normalize_self_loop_runs;
 ghost use lib.ListN.{length};
 ghost use Rattle.normalize_spec.specs.Services.{normalize};
 ghost use Rattle.normalize.specs.Served.{outcomeOf};
 ghost use Rattle.console.specs.Printed.{limited, Prints};
+use console::put_refusal;
+use console::show;
+use normalize::services::normalize_self_loop_runs;
+use reader::answers::plain;
 
 // Puts what is to be printed at the front of `out`, and answers how many bytes that is.
 fn print_normalized(text: &[u8], out: &mut [u8], work: &mut [u32]) -> usize

@@ -1,11 +1,11 @@
 // Prints the report on standard input, which has at most 2,048 bytes, with ten nodes; or the lines of a refusal.
-use console::put_refusal;
-use console::show;
-use gfa::services::plain;
-use report::services::diagnose_gfa;
 ghost use lib.ListN.{length};
 ghost use Rattle.report_spec.specs.Services.{reportText};
 ghost use Rattle.console.specs.Printed.{limited, Prints};
+use console::put_refusal;
+use console::show;
+use reader::answers::plain;
+use report::services::diagnose_gfa;
 
 // Puts what is to be printed at the front of `out`, and answers how many bytes that is.
 fn print_report(text: &[u8], out: &mut [u8], work: &mut [u32]) -> usize

@@ -4,9 +4,9 @@ use native.Mathlib.Omega.{arith}
 use mathlib.Core.List.{List}
 use mathlib.Core.Option.{Option, none, some}
 use mathlib.Core.Path.{_≡_, refl, sym}
-use borrow.Author.Tests.{ltb-true, ltb-false, lt-ltb, le-ltb}
 use lib.Dec.{ltb}
 use lib.ListN.{length}
+use borrow.Author.Tests.{ltb-true, ltb-false, lt-ltb, le-ltb}
 use Rattle.gfa_spec.specs.Reading.{Entry, Parsed, refusedAt, parsed, parse}
 use Rattle.gfa_spec.specs.Calls.{Refusal, plainly, onLine, badByte, Input, entries, ofParsed, ofBytes, input}
 use Rattle.gfa_spec.proofs.Tests.{by-test}

@@ -1,21 +1,37 @@
 -- When a service answers and when it refuses, both ways: what fits, and the service that spells a path. Assumes nothing.
-use Prim.Native.Nat.{ℕ, _≤_, _<_}
+use Prim.Native.Nat.{ℕ, zero, suc, _≤_, _<_}
 use native.Mathlib.Omega.{arith}
-use mathlib.Core.List.{List}
+use mathlib.Core.List.{List, [], _∷_}
 use mathlib.Core.Option.{Option, none, some}
 use mathlib.Core.Path.{_≡_, refl, sym}
-use borrow.Author.Tests.{ltb-true, ltb-false, lt-ltb, le-ltb}
 use lib.Dec.{ltb}
 use lib.ListN.{length}
+use borrow.Author.Tests.{ltb-true, ltb-false, lt-ltb, le-ltb}
 use Rattle.gfa_spec.specs.Reading.{Path, Entry}
 use Rattle.gfa_spec.specs.Records.{segments, paths}
 use Rattle.gfa_spec.specs.Sequences.{complement}
 use Rattle.gfa_spec.specs.Spelling.{Spelt, bad, spelt, spell}
 use Rattle.gfa_spec.specs.Calls.{Refusal, plainly, onName, Input, entries, input, Outcome, answer, fitted}
 use Rattle.gfa_spec.specs.Services.{pathAt, ofSpelt, ofPath, spellEntries, spellPath}
-use Rattle.gfa_spec.specs.Bytes.{Part}
+use Rattle.gfa_spec.specs.Bytes.{Part, nth}
 use Rattle.gfa_spec.proofs.Tests.{by-test}
 use Rattle.gfa_spec.proofs.Admission.{Admitted, InputRefuses, input-refused, refused-input, input-entries, entries-input}
+
+-- ---- path k
+
+-- path k of a list that has so many
+pub path-some : (k : ℕ) (ps : List Path) (d : Path) → k < length ps → pathAt k ps ≡ some (nth k ps d)
+unfolding pathAt nth
+path-some k [] d h = absurd (omega arith)
+path-some zero (p ∷ ps) d h = refl
+path-some (suc k) (p ∷ ps) d h = path-some k ps d (omega arith)
+
+-- and of one that has not
+pub path-none : (k : ℕ) (ps : List Path) → length ps ≤ k → pathAt k ps ≡ none
+unfolding pathAt
+path-none k [] h = refl
+path-none zero (p ∷ ps) h = absurd (omega arith)
+path-none (suc k) (p ∷ ps) h = path-none k ps (omega arith)
 
 -- ---- what fits
 

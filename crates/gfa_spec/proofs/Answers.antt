@@ -1,7 +1,7 @@
 -- Values that are read, or refused. Assumes nothing.
 use Prim.Native.Nat.{ℕ}
-use mathlib.Core.Path.{_≡_, refl}
 use native.Mathlib.Omega.{arith}
+use mathlib.Core.Path.{_≡_, refl}
 use Rattle.gfa_spec.specs.Reading.{Read, refused, accepted, mapRead}
 
 -- a refusal is no acceptance

@@ -5,7 +5,7 @@ use mathlib.Core.List.{List, [], _∷_}
 use mathlib.Core.Option.{Option, none, some}
 use mathlib.Core.Path.{_≡_, refl, ap, _∙_}
 use lib.ListN.{length}
-use Rattle.gfa_spec.specs.Bytes.{same, star, Part, part}
+use Rattle.gfa_spec.specs.Bytes.{same, star, Part, part, Each}
 use Rattle.gfa_spec.specs.Reading.{Step, Segment, Path, Entry, parsed, parse}
 use Rattle.gfa_spec.specs.Records.{segments, paths, sequenceOf}
 use Rattle.gfa_spec.specs.Sequences.{complement, oriented}
@@ -13,7 +13,6 @@ use Rattle.gfa_spec.specs.Spelling.{Spelt, bad, spelt, behind, spellStep
 use Rattle.gfa_spec.specs.Calls.{Refusal, onName}
 use Rattle.gfa_spec.specs.Services.{badStep}
 use Rattle.gfa_spec.proofs.Tests.{by-test, same-equal}
-use Rattle.gfa_spec.proofs.Each.{Each}
 use Rattle.gfa_spec.proofs.Splitting.{Within}
 use Rattle.gfa_spec.proofs.Located.{NameWithin, names-within, within-part}
 use Rattle.gfa_spec.proofs.Refusals.{NumberedSpelt, spell-numbered}

@@ -5,13 +5,13 @@ use mathlib.Core.Bool.{Bool, true, false, cond, not, _&&_, true≢false}
 use mathlib.Core.List.{List, [], _∷_, map}
 use mathlib.Core.Option.{Option, none, some}
 use mathlib.Core.Path.{_≡_, refl}
-use borrow.Author.Tests.{not-true}
 use lib.Dec.{eqb, leb}
-use Rattle.gfa_spec.specs.Bytes.{Part, bytesOf, split, joinWith, tabbed, endLine, ended, prepend, between}
+use borrow.Author.Tests.{not-true}
+use Rattle.gfa_spec.specs.Bytes.{Part, bytesOf, split, joinWith, tabbed, endLine, ended, prepend, between, Each}
 use Rattle.gfa_spec.specs.Reading.{dropReturn, lineOf, lines, fields}
 use Rattle.gfa_spec.specs.Calls.{atPlace, badByte}
 use Rattle.gfa_spec.proofs.Tests.{by-test, and-left, and-right}
-use Rattle.gfa_spec.proofs.Each.{Each, Lacks, each-append, each-join, each-map, each-implies, each-of-map}
+use Rattle.gfa_spec.proofs.Each.{Lacks, each-append, each-join, each-map, each-implies, each-of-map}
 use Rattle.gfa_spec.proofs.Splitting.{split-between, parts-each}
 use Rattle.gfa_spec.proofs.Lines.{each-dropReturn, lines-each, lines-lack}
 

@@ -1,4 +1,5 @@
 -- For claims that are computed: to unfold `computing` is to unfold every definition of how a text is read and spelled. Assumes nothing.
+use mathlib.Core.Bool.{Bool, true}
 use Rattle.gfa_spec.specs.Bytes
 use Rattle.gfa_spec.specs.Decimal
 use Rattle.gfa_spec.specs.Reading
@@ -8,7 +9,6 @@ use Rattle.gfa_spec.specs.Spelling
 use Rattle.gfa_spec.specs.Runs
 use Rattle.gfa_spec.specs.Calls
 use Rattle.gfa_spec.specs.Services
-use mathlib.Core.Bool.{Bool, true}
 
 -- every definition of these modules, as one name
 unfoldable pub computing : Bool

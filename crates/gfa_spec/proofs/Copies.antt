@@ -6,10 +6,9 @@ use mathlib.Core.List.{List, [], _∷_, _++_, map, reverse, append-nil, append-a
 use mathlib.Core.Path.{_≡_, refl, sym, ap, _∙_}
 use lib.Dec.{eqb}
 use lib.ListN.{length, length-append}
-use Rattle.gfa_spec.specs.Bytes.{same, star, all, join, copies, repeat}
+use Rattle.gfa_spec.specs.Bytes.{same, star, all, join, copies, repeat, Each}
 use Rattle.gfa_spec.specs.Sequences.{reverseComplement, oriented}
 use Rattle.gfa_spec.proofs.Tests.{by-test, refute, same-equal, all-append}
-use Rattle.gfa_spec.proofs.Each.{Each}
 
 -- ---- copies
 

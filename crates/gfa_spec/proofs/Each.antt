@@ -3,15 +3,10 @@ use Prim.Native.Nat.{ℕ, zero, suc}
 use mathlib.Core.Bool.{Bool, true, false, not}
 use mathlib.Core.List.{List, [], _∷_, _++_, map}
 use mathlib.Core.Path.{_≡_, refl}
-use borrow.Author.Tests.{not-true}
 use lib.Dec.{eqb}
-use Rattle.gfa_spec.specs.Bytes.{same, any, all, keep, join, nth}
-use Rattle.gfa_spec.proofs.Tests.{by-test, and-left, and-right, and-both, or-left, or-right, same-sym, any-append, distinct}
-
--- each element has P
-abbrev pub Each : {A : Type 0} → (A → Type 0) → List A → Type 0
-Each P [] = Unit {0}
-Each P (x ∷ xs) = P x × Each P xs
+use borrow.Author.Tests.{not-true}
+use Rattle.gfa_spec.specs.Bytes.{same, any, all, keep, join, nth, distinct, Each}
+use Rattle.gfa_spec.proofs.Tests.{by-test, and-left, and-right, and-both, or-left, or-right, same-sym, any-append}
 
 -- each of two lists has P: each of the joined list has P
 pub each-append : {A : Type 0} (P : A → Type 0) (xs ys : List A) → Each P xs → Each P ys → Each P (xs ++ ys)

@@ -1,16 +1,16 @@
 -- What an accepted line holds, and that the same line is accepted behind other segments. Assumes nothing.
 use Prim.Native.Nat.{ℕ, suc, _≤_}
+use native.Mathlib.Omega.{arith}
 use mathlib.Core.Bool.{Bool, true, false, cond}
 use mathlib.Core.List.{List, [], _∷_, _++_, map, append-nil}
 use mathlib.Core.Path.{_≡_, refl}
-use native.Mathlib.Omega.{arith}
-use borrow.Author.Tests.{ltb-false, ne-eqb}
 use lib.Dec.{eqb, ltb}
 use lib.ListN.{length}
-use Rattle.gfa_spec.specs.Bytes.{same, star, isEmpty, any, Part, bytesOf, nth, one, nil}
+use borrow.Author.Tests.{ltb-false, ne-eqb}
+use Rattle.gfa_spec.specs.Bytes.{same, star, isEmpty, any, Part, bytesOf, nth, one, nil, Each}
 use Rattle.gfa_spec.specs.Reading.{fields, nowhere, field, Step, P, W, Path, Entry, header, comment, blank, other, segment, link, path, Read, refused, accepted, then, isOrientation, parsePSteps, parseWSteps, parseOrientation, parseS, parseL, parseP, parseW, parseFields, startsComment, parseLine, idOf, choose}
 use Rattle.gfa_spec.proofs.Tests.{same-equal}
-use Rattle.gfa_spec.proofs.Each.{Each, each-append, each-map, nth-each}
+use Rattle.gfa_spec.proofs.Each.{each-append, each-map, nth-each}
 use Rattle.gfa_spec.proofs.Answers.{not-accepted}
 use Rattle.gfa_spec.proofs.Steps.{psteps-bytes, wsteps-bytes}
 

@@ -7,9 +7,9 @@ use mathlib.Core.List.{List, [], _∷_, map, tail, append-nil}
 use mathlib.Core.Logic.{_↔_}
 use mathlib.Core.Option.{Option, none, some, Option·elim, Option·none-ne-some, Option·some-ne-none}
 use mathlib.Core.Path.{_≡_, refl, sym, ap, _∙_}
-use borrow.Author.Tests.{eqb-true, ne-eqb, le-ltb}
 use lib.Dec.{eqb, ltb}
 use lib.ListN.{length, length-map}
+use borrow.Author.Tests.{eqb-true, ne-eqb, le-ltb}
 use Rattle.gfa_spec.specs.Bytes.{bytes, same, isEmpty, any, all, nth, Part, bytesOf, prepend, between, lastByte}
 use Rattle.gfa_spec.specs.Reading.{fields, nowhere, field, Entry, Read, accepted, then, parsePSteps, parseWSteps, parseOrientation, parseS, parseL, parseP, parseW, parseFields, startsComment, parseLine, mapRead}
 use Rattle.gfa_spec.specs.Reading as reading

@@ -3,8 +3,8 @@ use Prim.Native.Nat.{ℕ, suc}
 use mathlib.Core.Bool.{Bool, true, false, cond, not, true≢false, false≢true}
 use mathlib.Core.List.{List, [], _∷_, map, dropLast}
 use mathlib.Core.Path.{_≡_, refl, sym, ap, _∙_}
-use borrow.Author.Tests.{not-true, eqb-true}
 use lib.Dec.{eqb}
+use borrow.Author.Tests.{not-true, eqb-true}
 use Rattle.gfa_spec.specs.Bytes.{bytes, star, isEmpty, all, Part, bytesOf, split, lastByte, prepend, between, same}
 use Rattle.gfa_spec.specs.Reading.{Step, Read, accepted, then, isStep, stepOf, parseItems, parsePSteps, isMark, orientationOf, walk, nonEmpty, parseWSteps}
 use Rattle.gfa_spec.specs.Reading as reading

@@ -4,8 +4,8 @@ use mathlib.Core.Bool.{true, false, cond, _&&_}
 use mathlib.Core.List.{List, [], _∷_, _++_, map}
 use mathlib.Core.Option.{Option, none, some, Option·elim, Option·some-ne-none}
 use mathlib.Core.Path.{_≡_, refl, sym, ap, _∙_}
-use borrow.Author.Tests.{not-true}
 use lib.ListN.{length}
+use borrow.Author.Tests.{not-true}
 use Rattle.gfa_spec.specs.Bytes.{bytes, same, isEmpty, any, all, Part, one, nil}
 use Rattle.gfa_spec.specs.Reading.{lines, fields, field, Kind, Entry, header, comment, blank, other, segment, link, path, refused, accepted, parseFields, startsComment, parseLine, parsed, idOf, after, parseLines, parse, mapRead, onward, choose}
 use Rattle.gfa_spec.specs.Calls.{badByte, entries, input}

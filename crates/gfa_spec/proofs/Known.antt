@@ -5,14 +5,13 @@ use mathlib.Core.Bool.{true, false}
 use mathlib.Core.List.{List, [], _∷_}
 use mathlib.Core.Option.{Option, none, some, Option·elim}
 use mathlib.Core.Path.{_≡_, refl}
-use Rattle.gfa_spec.specs.Bytes.{same, star, all}
+use Rattle.gfa_spec.specs.Bytes.{same, star, all, Each}
 use Rattle.gfa_spec.specs.Reading.{Step, Segment, Path, Entry}
 use Rattle.gfa_spec.specs.Records.{segments, sequenceOf, sequenceOrEmpty, hasSequence}
 use Rattle.gfa_spec.specs.Sequences.{complement, oriented}
 use Rattle.gfa_spec.specs.Spelling.{Spelt, bad, spelt, behind, spellStep, spell}
 use Rattle.gfa_spec.specs.Services.{badStep}
 use Rattle.gfa_spec.proofs.Tests.{by-test}
-use Rattle.gfa_spec.proofs.Each.{Each}
 
 -- A name finds a sequence other than `*`.
 pub record Known (ss : List Segment) (name : List ℕ) : Type 0 where

@@ -2,6 +2,7 @@
 pub mod Computing
 pub mod Tests
 pub mod Each
+pub mod Counting
 pub mod Parts
 pub mod Comparing
 pub mod Copies

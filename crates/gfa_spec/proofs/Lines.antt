@@ -1,16 +1,16 @@
 -- The lines of a text: those that were written are read again, and where they stand. Assumes nothing.
 use Prim.Native.Nat.{ℕ, _-_, _≤_}
+use native.Mathlib.Omega.{arith}
 use mathlib.Core.Bool.{Bool, true, false, cond}
 use mathlib.Core.List.{List, [], _∷_, _++_, map}
 use mathlib.Core.Path.{_≡_, refl, ap, sym, _∙_}
-use native.Mathlib.Omega.{arith}
 use lib.Dec.{eqb}
 use lib.ListN.{length, take, drop}
 use lib.Seq.{take-take}
-use Rattle.gfa_spec.specs.Bytes.{isEmpty, ended, Part, bytesOf, split, part, lastByte, between}
+use Rattle.gfa_spec.specs.Bytes.{isEmpty, ended, Part, bytesOf, split, part, lastByte, between, Each}
 use Rattle.gfa_spec.specs.Reading.{dropFinal, dropReturn, lineOf, lines}
 use Rattle.gfa_spec.proofs.Tests.{cond-ap}
-use Rattle.gfa_spec.proofs.Each.{Each, Lacks, each-implies, each-map}
+use Rattle.gfa_spec.proofs.Each.{Lacks, each-implies, each-map}
 use Rattle.gfa_spec.proofs.Splitting.{split-between, between-ended, parts-lack, Within, split-within}
 
 -- ---- reading what was written

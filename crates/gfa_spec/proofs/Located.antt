@@ -6,10 +6,10 @@ use mathlib.Core.List.{List, [], _∷_, _++_, dropLast}
 use mathlib.Core.Path.{_≡_, refl, sym, ap, _∙_}
 use lib.ListN.{length, take, drop}
 use lib.Seq.{take-nil, take-take, drop-drop}
-use Rattle.gfa_spec.specs.Bytes.{part, Part, split, nth}
+use Rattle.gfa_spec.specs.Bytes.{part, Part, split, nth, Each}
 use Rattle.gfa_spec.specs.Reading.{fields, nowhere, lines, Step, Entry, header, comment, blank, other, segment, link, path, accepted, stepOf, parsePSteps, walk, parseWSteps, parsed, idOf, parse}
 use Rattle.gfa_spec.specs.Records.{paths}
-use Rattle.gfa_spec.proofs.Each.{Each, each-implies, nth-each}
+use Rattle.gfa_spec.proofs.Each.{each-implies, nth-each}
 use Rattle.gfa_spec.proofs.Splitting.{Within, within-more, within-none, within-front, split-within}
 use Rattle.gfa_spec.proofs.Lines.{within-shorter, lines-within}
 use Rattle.gfa_spec.proofs.Steps.{psteps-each, walk-ind, wsteps-each}

@@ -5,10 +5,10 @@ use mathlib.Core.List.{List, [], _∷_, _++_, map}
 use mathlib.Core.Path.{_≡_, refl, ap, sym, _∙_}
 use lib.Dec.{eqb, ltb}
 use lib.ListN.{length, length-map}
-use Rattle.gfa_spec.specs.Bytes.{same, star, isEmpty, ended, Part, bytesOf, nth, between, one, nil}
+use Rattle.gfa_spec.specs.Bytes.{same, star, isEmpty, ended, Part, bytesOf, nth, between, one, nil, Each}
 use Rattle.gfa_spec.specs.Reading.{fields, nowhere, field, Step, Kind, P, W, Path, Entry, header, comment, blank, other, segment, link, path, Read, refused, accepted, then, isStep, stepOf, parseItems, parsePSteps, isMark, orientationOf, Walk, walk, nonEmpty, parseWSteps, parseS, parseL, parseP, parseW, parseFields, parseLine, Parsed, refusedAt, parsed, idOf, after, onward, parseLines, parse, lines, mapRead, choose}
 use Rattle.gfa_spec.proofs.Tests.{cond-ap}
-use Rattle.gfa_spec.proofs.Each.{nth-map, Each, Lacks}
+use Rattle.gfa_spec.proofs.Each.{nth-map, Lacks}
 use Rattle.gfa_spec.proofs.Lines.{Unreturned, lines-ended}
 use Rattle.gfa_spec.proofs.Answers.{not-accepted}
 use Rattle.gfa_spec.proofs.Splitting.{split-between}

@@ -4,11 +4,10 @@ use mathlib.Core.Bool.{Bool, true, false, true≢false}
 use mathlib.Core.List.{List, [], _∷_, _++_, map, append-assoc}
 use mathlib.Core.Option.{none}
 use mathlib.Core.Path.{_≡_, refl, sym, ap, _∙_}
-use Rattle.gfa_spec.specs.Bytes.{same, any, join, tabbed, ended, Part}
+use Rattle.gfa_spec.specs.Bytes.{same, any, join, tabbed, ended, Part, distinct, Each}
 use Rattle.gfa_spec.specs.Reading.{fields, Entry, accepted, parseLine, parsed, idOf, after, onward, parseLines, parse, mapRead, choose}
 use Rattle.gfa_spec.specs.Calls.{badByte}
-use Rattle.gfa_spec.proofs.Tests.{distinct}
-use Rattle.gfa_spec.proofs.Each.{Each, Lacks, each-front, each-map, each-implies, distinct-apart}
+use Rattle.gfa_spec.proofs.Each.{Lacks, each-front, each-map, each-implies, distinct-apart}
 use Rattle.gfa_spec.proofs.Lines.{Unreturned, lacks-unreturned}
 use Rattle.gfa_spec.proofs.Answers.{mapRead-accepted}
 use Rattle.gfa_spec.proofs.Places.{unplaced, erase, parseLine-alike, eraseParsed, idOf-erase, after-erase, parse-ended}

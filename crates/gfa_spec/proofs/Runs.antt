@@ -7,12 +7,12 @@ use mathlib.Core.Path.{_≡_, refl, sym, ap, _∙_}
 use lib.Dec.{eqb}
 use lib.ListN.{length}
 use borrow.Author.Tests.{eqb-true, eq-eqb}
-use Rattle.gfa_spec.specs.Bytes.{same, sum}
+use Rattle.gfa_spec.specs.Bytes.{same, sum, Each}
 use Rattle.gfa_spec.specs.Reading.{Step, Entry}
 use Rattle.gfa_spec.specs.Records.{paths}
 use Rattle.gfa_spec.specs.Runs.{Run, runs, extend, sameNode, sameStep, pairs, bit, overPaths, stepCount}
 use Rattle.gfa_spec.proofs.Tests.{by-test, and-left, and-right, and-both, same-equal, equal-same}
-use Rattle.gfa_spec.proofs.Each.{Each, each-implies}
+use Rattle.gfa_spec.proofs.Each.{each-implies}
 use Rattle.gfa_spec.proofs.Sorts.{append-sorted}
 
 -- ---- equal steps
@@ -85,7 +85,7 @@ unfoldable pub excess : List Run → ℕ
 excess rs = sum (map (λ r. r .count - 1) rs)
 
 -- the first run begins with the first step
-extend-first : (s : Step) (rs : List Run) → (n : ℕ) × (more : List Run) × (extend s rs ≡ record { step = s; count = suc n } ∷ more)
+pub extend-first : (s : Step) (rs : List Run) → (n : ℕ) × (more : List Run) × (extend s rs ≡ record { step = s; count = suc n } ∷ more)
 unfolding extend
 extend-first s [] = (0, [], refl)
 extend-first s (r ∷ rs) = by-test (sameStep s (r .step)) (λ e. (r .count, rs, rw e)) (λ e. (0, r ∷ rs, rw e))

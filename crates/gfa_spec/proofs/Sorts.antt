@@ -3,10 +3,9 @@ use Prim.Native.Nat.{ℕ}
 use mathlib.Core.Bool.{Bool, true, false}
 use mathlib.Core.List.{List, [], _∷_, _++_, map, append-assoc}
 use mathlib.Core.Path.{_≡_, refl, ap, sym}
-use Rattle.gfa_spec.specs.Bytes.{keep, one, nil}
+use Rattle.gfa_spec.specs.Bytes.{keep, one, nil, Each}
 use Rattle.gfa_spec.specs.Reading.{Segment, Link, Path, Entry, header, comment, blank, other, segment, link, path, choose}
 use Rattle.gfa_spec.specs.Records.{leading, others, segments, links, paths, collect}
-use Rattle.gfa_spec.proofs.Each.{Each}
 use Rattle.gfa_spec.proofs.Places.{erase, erasePath}
 use Rattle.gfa_spec.proofs.Rereading.{written, isPath}
 

@@ -1,16 +1,16 @@
 -- A string that is joined is split into its parts again, and the other way round. Assumes nothing.
 use Prim.Native.Nat.{ℕ, suc, _+_, _-_, _≤_}
+use native.Mathlib.Nat.{add-zero}
+use native.Mathlib.Omega.{arith}
 use mathlib.Core.Bool.{Bool, true, false, cond}
 use mathlib.Core.List.{List, [], _∷_, _++_, map, append-assoc}
 use mathlib.Core.Path.{_≡_, refl, ap, _∙_}
-use native.Mathlib.Nat.{add-zero}
-use native.Mathlib.Omega.{arith}
-use borrow.Author.Tests.{eq-eqb, eqb-true}
 use lib.Dec.{eqb}
 use lib.ListN.{length}
-use Rattle.gfa_spec.specs.Bytes.{sum, join, joinWith, tabbed, endLine, ended, Part, bytesOf, longer, split, part, prepend, between}
+use borrow.Author.Tests.{eq-eqb, eqb-true}
+use Rattle.gfa_spec.specs.Bytes.{sum, join, joinWith, tabbed, endLine, ended, Part, bytesOf, longer, split, part, prepend, between, Each}
 use Rattle.gfa_spec.proofs.Tests.{cond-ap}
-use Rattle.gfa_spec.proofs.Each.{Each, Lacks, each-implies, each-always}
+use Rattle.gfa_spec.proofs.Each.{Lacks, each-implies, each-always}
 
 -- ---- the parts without their places
 
@@ -110,7 +110,7 @@ module _ (b : ℕ) (P : ℕ → List ℕ → List Part → Type 0)
   split-ind at (c ∷ s) = split-case at c s (split b (suc at) s) (eqb c b) refl (split-starts b (suc at) s) (split-ind (suc at) s)
 
 -- a byte in front of the first string is a byte in front of all
-joinWith-cons : (b c : ℕ) (x : List ℕ) (xs : List (List ℕ)) → joinWith b ((c ∷ x) ∷ xs) ≡ c ∷ joinWith b (x ∷ xs)
+pub joinWith-cons : (b c : ℕ) (x : List ℕ) (xs : List (List ℕ)) → joinWith b ((c ∷ x) ∷ xs) ≡ c ∷ joinWith b (x ∷ xs)
 unfolding joinWith
 joinWith-cons b c x [] = refl
 joinWith-cons b c x (y ∷ ys) = refl

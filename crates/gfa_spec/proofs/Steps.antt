@@ -3,12 +3,12 @@ use Prim.Native.Nat.{ℕ, suc}
 use mathlib.Core.Bool.{Bool, true, false, cond, not, _||_, false≢true}
 use mathlib.Core.List.{List, [], _∷_, dropLast}
 use mathlib.Core.Path.{_≡_, refl, sym}
-use borrow.Author.Tests.{not-true, eqb-true}
 use lib.Dec.{eqb}
-use Rattle.gfa_spec.specs.Bytes.{same, star, isEmpty, Part, split, lastByte}
+use borrow.Author.Tests.{not-true, eqb-true}
+use Rattle.gfa_spec.specs.Bytes.{same, star, isEmpty, Part, split, lastByte, Each}
 use Rattle.gfa_spec.specs.Reading.{Step, Read, refused, accepted, then, isOrientation, isStep, stepOf, parseItems, parsePSteps, isMark, orientationOf, Walk, walk, nonEmpty, parseWSteps}
 use Rattle.gfa_spec.proofs.Tests.{and-left, and-right, or-left, or-right, by-test}
-use Rattle.gfa_spec.proofs.Each.{Each, Lacks, each-implies, each-always, each-both}
+use Rattle.gfa_spec.proofs.Each.{Lacks, each-implies, each-always, each-both}
 use Rattle.gfa_spec.proofs.Answers.{not-accepted}
 use Rattle.gfa_spec.proofs.Splitting.{parts-lack, parts-bytes}
 

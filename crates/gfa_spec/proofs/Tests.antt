@@ -5,7 +5,7 @@ use mathlib.Core.List.{List, [], _∷_, _++_}
 use mathlib.Core.Path.{_≡_, refl, sym, _∙_}
 use lib.Dec.{eqb}
 use borrow.Author.Tests.{eqb-true, eq-eqb, not-true}
-use Rattle.gfa_spec.specs.Bytes.{same, any, all, keep}
+use Rattle.gfa_spec.specs.Bytes.{same, any, all, keep, distinct}
 
 -- ---- Booleans
 
@@ -143,11 +143,6 @@ all-in p x (y ∷ ys) h i =
     (λ e. all-in p x ys (and-right (p y) (all p ys) h) (rw e at i))
 
 -- ---- lists without repetition
-
--- are no two strings of the list equal?
-unfoldable pub distinct : List (List ℕ) → Bool
-distinct [] = true
-distinct (x ∷ xs) = not (any (same x) xs) && distinct xs
 
 -- none of the second list stands in the first
 unfoldable pub apart : List (List ℕ) → List (List ℕ) → Bool

@@ -5,12 +5,12 @@ use mathlib.Core.Bool.{true}
 use mathlib.Core.List.{List, [], _∷_, _++_, map, append-nil, append-assoc}
 use mathlib.Core.Option.{none}
 use mathlib.Core.Path.{_≡_, refl, ap}
-use Rattle.gfa_spec.specs.Bytes.{any, all, join, Part, one, nil}
+use Rattle.gfa_spec.specs.Bytes.{any, all, join, Part, one, nil, distinct, Each}
 use Rattle.gfa_spec.specs.Reading.{fields, field, Entry, header, comment, blank, other, segment, link, path, Read, refused, accepted, lines, parseLine, Parsed, refusedAt, parsed, idOf, after, onward, parseLines, parse, choose}
 use Rattle.gfa_spec.specs.Records.{segments, collect}
 use Rattle.gfa_spec.specs.Calls.{badByte}
-use Rattle.gfa_spec.proofs.Tests.{distinct, apart, distinct-append}
-use Rattle.gfa_spec.proofs.Each.{Each, each-implies}
+use Rattle.gfa_spec.proofs.Tests.{apart, distinct-append}
+use Rattle.gfa_spec.proofs.Each.{each-implies}
 use Rattle.gfa_spec.proofs.Entries.{Holds, is-header, is-comment, is-blank, is-other, is-segment, is-link, is-p, is-w, line-holds, nth-field, path-fields-bytes, path-names-bytes}
 use Rattle.gfa_spec.proofs.Clean.{isLineByte, isFieldByte, LineBytes, FieldBytes, lines-clean, fields-clean}
 

@@ -149,21 +149,18 @@ fn field(text: &[u8], k: usize) {
 
 fn sort(s: &[u8]) {
     label(b"sort_of");
-    let found = gfa::sort::sort_of(s, 0, s.len());
+    let found = lines::sort::sort_of(s, 0, s.len());
     match found {
-        gfa::sort::Sort::Blank => io::write_all(1, b"blank\n"),
-        gfa::sort::Sort::Comment => io::write_all(1, b"comment\n"),
-        gfa::sort::Sort::Header => io::write_all(1, b"header\n"),
-        gfa::sort::Sort::Segment => io::write_all(1, b"segment\n"),
-        gfa::sort::Sort::Link => io::write_all(1, b"link\n"),
-        gfa::sort::Sort::Path(kind) => {
-            if kind == 0 {
-                io::write_all(1, b"path\n")
-            } else {
-                io::write_all(1, b"walk\n")
-            }
-        }
-        gfa::sort::Sort::Other => io::write_all(1, b"other\n"),
+        lines::sort::Sort::Blank => io::write_all(1, b"blank\n"),
+        lines::sort::Sort::Comment => io::write_all(1, b"comment\n"),
+        lines::sort::Sort::Header => io::write_all(1, b"header\n"),
+        lines::sort::Sort::Segment => io::write_all(1, b"segment\n"),
+        lines::sort::Sort::Link => io::write_all(1, b"link\n"),
+        lines::sort::Sort::Path(kind) => match kind {
+            tables::kinds::PathKind::P => io::write_all(1, b"path\n"),
+            tables::kinds::PathKind::W => io::write_all(1, b"walk\n"),
+        },
+        lines::sort::Sort::Other => io::write_all(1, b"other\n"),
     }
     ;
 }
@@ -171,12 +168,12 @@ fn sort(s: &[u8]) {
 // An orientation field of an L line: the byte, or its refusal, 8 or 9.
 fn orientation(s: &[u8]) {
     label(b"parse_orientation");
-    let read = gfa::links::parse_orientation(s, 0, s.len(), 8);
+    let read = lines::links::parse_orientation(s, 0, s.len(), 8);
     match read {
-        gfa::tables::Checked::Value(b) => {
+        steps::checked::Checked::Value(b) => {
             io::print_decimal(1, b as u64);
         }
-        gfa::tables::Checked::Refused(n) => {
+        steps::checked::Checked::Refused(n) => {
             io::write_all(1, b"refused ");
             io::print_decimal(1, n as u64);
         }

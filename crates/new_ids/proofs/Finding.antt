@@ -6,22 +6,27 @@ use mathlib.Core.Bool.{Bool, true, false, cond}
 use mathlib.Core.List.{List, [], _∷_, _++_, map, append-nil, append-assoc, map-append}
 use mathlib.Core.Option.{Option, none, some, Option·map}
 use mathlib.Core.Path.{_≡_, refl, sym, ap, _∙_}
-use lib.ListN.{length, getD, length-map}
-use Rattle.gfa_spec.specs.Bytes.{same, part, nth}
+use lib.ListN.{length, length-map}
+use Rattle.gfa_spec.specs.Bytes.{same, nth}
 use Rattle.gfa_spec.specs.Reading.{Segment}
 use Rattle.gfa_spec.specs.Records.{segmentNumber}
 use Rattle.gfa_spec.proofs.Each.{nth-map}
 use Rattle.gfa_spec.proofs.Tests.{cond-ap, by-test}
 use Rattle.normalize_spec.specs.Folding.{New, taken}
+use Rattle.writers.specs.Writers.{Wrote}
+use Rattle.writers.proofs.Writing.{being}
 use Rattle.work.specs.Rows.{rowsAt}
-use Rattle.work.proofs.Rows.{rows-length, rows-nth}
+use Rattle.work.proofs.Rows.{rows-nth}
 use Rattle.work.proofs.RowCuts.{rows-split}
-use Rattle.gfa.specs.declared.tables.Bases.{Bases}
-use Rattle.gfa.specs.declared.tables.Counts.{Counts}
-use Rattle.gfa.specs.declared.segments.Found.{Found}
-use Rattle.gfa.specs.declared.segments.Found.the-variants as found
-use Rattle.gfa.specs.Segments.{segmentAt, segmentsAt, FoundIs}
-use Rattle.gfa.proofs.Spelled.{found-at, found-nothing}
+use Rattle.tables.specs.declared.tables.Bases.{Bases}
+use Rattle.tables.specs.declared.tables.Counts.{Counts}
+use Rattle.tables.specs.declared.segments.Found.{Found}
+use Rattle.tables.specs.declared.segments.Found.the-variants as found
+use Rattle.tables.specs.declared.rows.Place.{Place}
+use Rattle.tables.specs.declared.rows.SegmentWords.{SegmentWords}
+use Rattle.tables.specs.ByNumber.{segmentNo, segmentsOf, bytesIn, SegmentIs, NamedIs}
+use Rattle.tables.proofs.ByNumber.{segments-length, segments-nth}
+use Rattle.tables.proofs.Numbers.{found-at, found-nothing}
 use Rattle.normalize_tables.specs.declared.layout.Layout.{Layout}
 use Rattle.normalize_tables.specs.News.{newAt, newsAt, namesAt, placeOf}
 use Rattle.normalize_tables.proofs.Nodes.{nth-front, names-length, names-more}
@@ -62,7 +67,7 @@ place-last (z ∷ xs) y x h =
 
 module _ (text work : List ℕ) (b : Bases) (n : Counts) (g : Layout) (first : ℕ) where
   -- before the first new segment they are the IDs of the text
-  names-none : namesAt text work b n g first 0 ≡ map (λ s. s .id) (segmentsAt text work (b .segs) (n .segs))
+  names-none : namesAt text work b n g first 0 ≡ map (λ s. s .id) (segmentsOf text work b n)
   unfolding namesAt taken newsAt rowsAt
   names-none = rw append-nil
 
@@ -80,44 +85,44 @@ module _ (text work : List ℕ) (b : Bases) (n : Counts) (g : Layout) (first : �
 -- ---- the search
 
 -- The state at j: none of the segments and of the first j new ones has the name.
-pub record Seeking (text work : List ℕ) (b : Bases) (n : Counts) (g : Layout) (first q name size j : ℕ) : Type 0 where
+pub record Seeking (text work : List ℕ) (b : Bases) (n : Counts) (g : Layout) (first q : ℕ) (name : Place) (j : ℕ) : Type 0 where
   pub high : j ≤ q
-  pub none-yet : placeOf (namesAt text work b n g first j) (part name size text) ≡ none
+  pub none-yet : placeOf (namesAt text work b n g first j) (bytesIn text name) ≡ none
 
-module _ {text work : List ℕ} {b : Bases} {n : Counts} {g : Layout} {first q name size : ℕ} where
-  pub seeking-start : segmentNumber (segmentsAt text work (b .segs) (n .segs)) (part name size text) ≡ none → Seeking text work b n g first q name size 0
+module _ {text work : List ℕ} {b : Bases} {n : Counts} {g : Layout} {first q : ℕ} {name : Place} where
+  pub seeking-start : segmentNumber (segmentsOf text work b n) (bytesIn text name) ≡ none → Seeking text work b n g first q name 0
   seeking-start h = record { high = omega arith; none-yet = rw (names-none text work b n g first, place-number) h }
 
-  module _ {j : ℕ} (s : Seeking text work b n g first q name size j) (l : j < q) {r : Bool} (e : r ≡ same (newAt text b g first work j .id) (part name size text)) where
-    here : placeOf (namesAt text work b n g first (suc j)) (part name size text) ≡ cond r (some (n .segs + j)) none
+  module _ {j : ℕ} (s : Seeking text work b n g first q name j) (l : j < q) {r : Bool} (e : r ≡ same (newAt text b g first work j .id) (bytesIn text name)) where
+    here : placeOf (namesAt text work b n g first (suc j)) (bytesIn text name) ≡ cond r (some (n .segs + j)) none
     here = rw (names-more text work b n g first j, place-last (namesAt text work b n g first j) _ _ (s .none-yet), ← e, names-length text work b n g first j)
 
-    pub seeking-hit : r ≡ true → NodeIs text work b n g first q name size (At (n .segs + j))
+    pub seeking-hit : r ≡ true → NodeIs text work b n g first q name (At (n .segs + j))
     seeking-hit t =
-        record { answer = rw (place-still text work b n g first (suc j) q (part name size text) (n .segs + j) (omega arith) (here ∙ rw t)); below = omega arith }
+        record { answer = rw (place-still text work b n g first (suc j) q (bytesIn text name) (n .segs + j) (omega arith) (here ∙ rw t)); below = omega arith }
 
-    pub seeking-more : r ≡ false → Seeking text work b n g first q name size (j + 1)
+    pub seeking-more : r ≡ false → Seeking text work b n g first q name (j + 1)
     seeking-more t = record { high = omega arith; none-yet = rw add-one (here ∙ rw t) }
 
-  pub seeking-end : {j : ℕ} → Seeking text work b n g first q name size j → q ≤ j → NodeIs text work b n g first q name size Nothing
+  pub seeking-end : {j : ℕ} → Seeking text work b n g first q name j → q ≤ j → NodeIs text work b n g first q name Nothing
   seeking-end {j} s h =
       let all : q ≡ j = omega (arith, s .high) in
       record { answer = rw (all, s .none-yet); below = tt }
 
   -- a segment of the text was found
-  pub seeking-segment : {r : Found} {k : ℕ} → FoundIs text work (b .segs) (n .segs) name size r → r ≡ found.At (record { 0 = k }) → NodeIs text work b n g first q name size (At k)
+  pub seeking-segment : {r : Found} {k : ℕ} → NamedIs text work b n name r → r ≡ found.At (record { 0 = k }) → NodeIs text work b n g first q name (At k)
   seeking-segment {r} {k} f e =
-      let number = found-at (segmentNumber (segmentsAt text work (b .segs) (n .segs)) (part name size text)) k (sym (f .answer) ∙ e) in
+      let number = found-at (segmentNumber (segmentsOf text work b n) (bytesIn text name)) k (sym (f .answer) ∙ e) in
       let low : k < n .segs = rw e at (f .below) in
       record {
-        answer = rw (place-still text work b n g first 0 q (part name size text) k (omega arith) (rw (names-none text work b n g first, place-number) number));
+        answer = rw (place-still text work b n g first 0 q (bytesIn text name) k (omega arith) (rw (names-none text work b n g first, place-number) number));
         below = omega arith;
       }
 
 -- no segment of the text was found
-pub seeking-none : {text work : List ℕ} {base count name size : ℕ} {r : Found} → FoundIs text work base count name size r → r ≡ found.Nothing
-    → segmentNumber (segmentsAt text work base count) (part name size text) ≡ none
-seeking-none {text} {work} {base} {count} {name} {size} f e = found-nothing (segmentNumber (segmentsAt text work base count) (part name size text)) (sym (f .answer) ∙ e)
+pub seeking-none : {text work : List ℕ} (b : Bases) (n : Counts) {name : Place} {r : Found} → NamedIs text work b n name r → r ≡ found.Nothing
+    → segmentNumber (segmentsOf text work b n) (bytesIn text name) ≡ none
+seeking-none {text} {work} b n {name} f e = found-nothing (segmentNumber (segmentsOf text work b n) (bytesIn text name)) (sym (f .answer) ∙ e)
 
 -- ---- a node's ID
 
@@ -130,26 +135,36 @@ nth-behind (suc k) (x ∷ xs) ys d l = let less : suc k - suc (length xs) ≡ k 
 
 module _ (text work : List ℕ) (b : Bases) (n : Counts) (g : Layout) (first q k : ℕ) where
   -- of a segment of the text
-  pub id-front : k < n .segs → part (getD work (b .segs + 6 * k + 2) 0) (getD work (b .segs + 6 * k + 3) 0) text ≡ nth k (namesAt text work b n g first q) []
-  unfolding namesAt taken segmentsAt segmentAt
+  pub id-front : k < n .segs → segmentNo text work b k .id ≡ nth k (namesAt text work b n g first q) []
+  unfolding namesAt taken
   id-front l =
-      let ss = rowsAt (segmentAt text) 6 work (b .segs) (n .segs) in
+      let ss = segmentsOf text work b n in
       let blank : Segment = record { id = []; sequence = []; line = [] } in
-      let many = rows-length (segmentAt text) 6 work (b .segs) (n .segs) in
+      let many = segments-length text work b (n .segs) in
       sym (nth-front k (map (λ s. s .id) ss) _ [] (rw length-map (omega arith))
       ∙ nth-map (λ s. s .id) k ss blank
-      ∙ ap (λ s. s .id) (rows-nth (segmentAt text) 6 work (b .segs) (n .segs) k blank l))
+      ∙ ap (λ s. s .id) (segments-nth text work b (n .segs) k blank l))
 
   -- of a new segment
   pub id-behind : n .segs ≤ k → k < n .segs + q → newAt text b g first work (k - n .segs) .id ≡ nth k (namesAt text work b n g first q) []
-  unfolding namesAt taken segmentsAt newsAt
+  unfolding namesAt taken newsAt
   id-behind l m =
-      let ss = rowsAt (segmentAt text) 6 work (b .segs) (n .segs) in
+      let ss = segmentsOf text work b n in
       let ns = rowsAt (newAt text b g first) 1 work 0 q in
       let blank : New = record { unit = []; count = 0; id = []; sequence = [] } in
-      let many : length (map (λ s. s .id) ss) ≡ n .segs = rw length-map (rows-length (segmentAt text) 6 work (b .segs) (n .segs)) in
+      let many : length (map (λ s. s .id) ss) ≡ n .segs = rw length-map (segments-length text work b (n .segs)) in
       let place : 0 + 1 * (k - n .segs) ≡ k - n .segs = omega arith in
       sym (nth-behind k (map (λ s. s .id) ss) (map (λ x. x .id) ns) [] (omega arith)
       ∙ rw many
       (nth-map (λ x. x .id) (k - n .segs) ns blank
       ∙ ap (λ x. x .id) (rows-nth (newAt text b g first) 1 work 0 q (k - n .segs) blank (omega arith) ∙ ap (newAt text b g first work) place)))
+
+-- it was written
+module _ (text work : List ℕ) (b : Bases) (n : Counts) (g : Layout) (first q k : ℕ) {limit at next : ℕ} {out end : List ℕ} where
+  pub front-written : {s : SegmentWords} → k < n .segs → SegmentIs text work b k s → Wrote limit out at (bytesIn text (s .id)) end next
+      → Wrote limit out at (nth k (namesAt text work b n g first q) []) end next
+  front-written l u w = being (sym (ap (λ x. x .id) (u .segment)) ∙ id-front text work b n g first q k l) w
+
+  pub behind-written : n .segs ≤ k → k < n .segs + q → Wrote limit out at (newAt text b g first work (k - n .segs) .id) end next
+      → Wrote limit out at (nth k (namesAt text work b n g first q) []) end next
+  behind-written l m w = being (id-behind text work b n g first q k l m) w

@@ -1,19 +1,18 @@
 -- The suffixes of the new names stay the first free ones when a new segment is added. Assumes nothing.
-use Prim.Native.Nat.{ℕ, suc, _+_, _*_, _≤_, _<_}
+use Prim.Native.Nat.{ℕ, suc, _+_, _≤_, _<_}
 use native.Mathlib.Omega.{arith}
 use mathlib.Core.Bool.{true}
 use mathlib.Core.List.{List}
 use mathlib.Core.Path.{_≡_}
-use lib.ListN.{getD}
 use Rattle.gfa_spec.specs.Bytes.{any, same}
 use Rattle.gfa_spec.specs.Decimal.{largest64}
 use Rattle.gfa_spec.proofs.Parts.{by-order}
 use Rattle.gfa_spec.proofs.Tests.{any-append}
-use Rattle.gfa.specs.declared.tables.Bases.{Bases}
-use Rattle.gfa.specs.declared.tables.Counts.{Counts}
-use Rattle.gfa.specs.Segments.{segmentAt}
+use Rattle.tables.specs.declared.tables.Bases.{Bases}
+use Rattle.tables.specs.declared.tables.Counts.{Counts}
+use Rattle.tables.specs.ByNumber.{segmentNo}
 use Rattle.normalize_tables.specs.declared.layout.Layout.{Layout}
-use Rattle.normalize_tables.specs.News.{newAt, namesAt, Suffixed}
+use Rattle.normalize_tables.specs.News.{segmentWords, newAt, namesAt, Suffixed}
 use Rattle.normalize_tables.proofs.Nodes.{names-more}
 use Rattle.new_ids.specs.Ids.{SuffixIs}
 
@@ -25,10 +24,10 @@ suffixed-number h = record { taken = λ j s l k m. absurd (omega arith); rising 
 pub record RowAdded (text work work' : List ℕ) (b : Bases) (n : Counts) (g : Layout) (first q unit count suffix : ℕ) : Type 0 where
   pub names : namesAt text work' b n g first q ≡ namesAt text work b n g first q
   pub rows : (j : ℕ) → j < q → newAt text b g first work' j ≡ newAt text b g first work j
-  pub words : (j : ℕ) → j < q → getD work' (g .segs + 4 * j + 2) 0 ≡ getD work (g .segs + 4 * j + 2) 0
-  pub of-unit : newAt text b g first work' q .unit ≡ segmentAt text work (b .segs + 6 * unit) .id
+  pub words : (j : ℕ) → j < q → segmentWords work' g j .suffix ≡ segmentWords work g j .suffix
+  pub of-unit : newAt text b g first work' q .unit ≡ segmentNo text work b unit .id
   pub of-count : newAt text b g first work' q .count ≡ count
-  pub of-suffix : getD work' (g .segs + 4 * q + 2) 0 ≡ suffix
+  pub of-suffix : segmentWords work' g q .suffix ≡ suffix
 
 module _ {text work work' : List ℕ} {b : Bases} {n : Counts} {g : Layout} {first q unit count r : ℕ}
     (a : RowAdded text work work' b n g first q unit count r) where

@@ -5,9 +5,9 @@ use mathlib.Core.Bool.{Bool, true, false, not, _&&_}
 use mathlib.Core.List.{List, [], _∷_, _++_, append-assoc}
 use mathlib.Core.Path.{_≡_, refl, sym, ap, _∙_}
 use lib.Dec.{eqb}
-use borrow.Author.Tests.{not-true, not-false}
 use lib.ListN.{length, take, drop, length-append, length-take}
 use lib.Seq.{take-at, take-add, drop-drop}
+use borrow.Author.Tests.{not-true, not-false}
 use Rattle.gfa_spec.specs.Bytes.{bytes, part, same}
 use Rattle.gfa_spec.specs.Decimal.{decimal}
 use Rattle.gfa_spec.proofs.Comparing.{same-length}

@@ -10,7 +10,7 @@ use Rattle.normalize_spec.specs.Counting.{Stats}
 use Rattle.normalize_spec.specs.Services.{Normal, normal, fitted}
 use Rattle.writers.specs.Writers.{Wrote}
 use Rattle.writers.proofs.Writing.{measured, measured-long, written}
-use Rattle.gfa.specs.Served.{answerOf, outputOf}
+use Rattle.reader.specs.Served.{answerOf, outputOf}
 use Rattle.normalize.specs.declared.returning.NormalizeSelfLoopsResult.{NormalizeSelfLoopsResult}
 use Rattle.normalize.specs.Counters.{noCounters, counters}
 use Rattle.normalize.specs.Served.{outcomeOf, statsOf, NormalAnswered}

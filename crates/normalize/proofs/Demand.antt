@@ -6,16 +6,15 @@ use mathlib.Core.List.{List, _++_}
 use mathlib.Core.Path.{_≡_, refl, sym, ap, _∙_}
 use lib.ListN.{length, take, drop, replicate}
 use lib.Seq.{take-append-seam}
-use Rattle.gfa_spec.specs.Reading.{Entry, parsed, parse}
 use Rattle.normalize_spec.specs.Counting.{Stats}
 use Rattle.normalize_spec.specs.Services.{Normal, normal, normalize}
-use Rattle.normalize_spec.specs.Guarantees.{looser, Monotone}
+use Rattle.normalize_spec.specs.Guarantees.{looser}
 use Rattle.normalize_spec.proofs.Service.{normalize-sound, normalize-monotone}
 use Rattle.normalize_spec.proofs.ServiceRefusals.{normalize-numbers}
-use Rattle.gfa.specs.Served.{answerOf, outputOf}
+use Rattle.reader.specs.Served.{answerOf, outputOf}
 use Rattle.normalize.specs.declared.returning.NormalizeSelfLoopsResult.{NormalizeSelfLoopsResult}
 use Rattle.normalize.specs.Counters.{counters}
-use Rattle.normalize.specs.Served.{outcomeOf, statsOf, NormalAnswered, Keeps, Normalized}
+use Rattle.normalize.specs.Served.{outcomeOf, statsOf, NormalAnswered, Keeps, LooserFolds, Normalized}
 
 module _ (text : List ℕ) (cap : ℕ) {out out' : List ℕ} (size : ℕ) {r : NormalizeSelfLoopsResult} where
   -- an answer of number 0 is the definition's text, and it stands at the front of the output
@@ -35,25 +34,26 @@ module _ (text : List ℕ) (cap : ℕ) {out out' : List ℕ} (size : ℕ) {r : N
       let (before, reads, after, s) = normalize-sound text cap (length out) size _ _ (accepted (normalize text cap (length out) size) refl a z) in
       record { before = before; after = after; reads = reads; kept = s .kept; counted = s .counted }
 
+  -- it folds no more than an accepted call with a looser cap
+  pub folds : NormalAnswered out out' r (normalize text cap (length out) size) → r .answer .number ≡ 0 → (d room words : ℕ) (output : List ℕ) (st : Stats)
+      → looser cap d ≡ true → normalize text d room words ≡ normal output st → LooserFolds text cap d (take (r .answer .length) out') output
+  folds a z d room words output st l e =
+      let here = accepted (normalize text cap (length out) size) refl a z in
+      record { monotone = λ es after-c after-d reads reads-c reads-d. normalize-monotone text cap d (length out) room size words _ _ _ _ l here e es after-c after-d reads reads-c reads-d }
+
   -- the call as it is returned, once the work area is cleared, however it was left
   pub normalized : {work' : List ℕ} (mid : List ℕ) → NormalAnswered out out' r (normalize text cap (length out) size) → work' ≡ replicate (length mid) 0 → length mid ≡ size
       → Normalized text cap out out' size work' r
-  normalized mid a e l = record { answer = a .answer; stats = a .stats; output = a .output; cleared = e ∙ rw l; kept = keeps a }
+  normalized mid a e l = record { answer = a .answer; stats = a .stats; output = a .output; cleared = e ∙ rw l; kept = keeps a; folds = folds a }
 
 -- ---- two calls
 
--- the definition's answer to an accepted call
-answered : (text : List ℕ) (cap : ℕ) {out out' : List ℕ} {size : ℕ} {work' : List ℕ} {r : NormalizeSelfLoopsResult} → Normalized text cap out out' size work' r → r .answer .number ≡ 0
-    → normalize text cap (length out) size ≡ normal (take (r .answer .length) out') (counters (r .stats))
-answered text cap {out} {size = size} h z =
-    accepted text cap size (normalize text cap (length out) size) refl (record { answer = h .answer; stats = h .stats; output = h .output }) z
-
 -- Demand 3, looser caps fold at least as much: of two accepted calls on one text, whatever room and whatever work area was lent to each and whatever
--- these held, what the tighter cap folds the looser one folds, each path loses at least as many steps, and has no more of them in the output.
+-- these held.
 pub calls-monotone : (text : List ℕ) (c d : ℕ) {out-c out-c' out-d out-d' work-c' work-d' : List ℕ} {size-c size-d : ℕ} {r q : NormalizeSelfLoopsResult} → looser c d ≡ true
     → Normalized text c out-c out-c' size-c work-c' r → r .answer .number ≡ 0
     → Normalized text d out-d out-d' size-d work-d' q → q .answer .number ≡ 0
-    → (es after-c after-d : List Entry) → parse text ≡ parsed es → parse (take (r .answer .length) out-c') ≡ parsed after-c → parse (take (q .answer .length) out-d') ≡ parsed after-d
-    → Monotone es c d after-c after-d
-calls-monotone text c d {out-c} {out-d = out-d} {size-c = size-c} {size-d = size-d} loose h y k z es after-c after-d reads reads-c reads-d =
-    normalize-monotone text c d (length out-c) (length out-d) size-c size-d _ _ _ _ loose (answered text c h y) (answered text d k z) es after-c after-d reads reads-c reads-d
+    → LooserFolds text c d (take (r .answer .length) out-c') (take (q .answer .length) out-d')
+calls-monotone text c d {out-d = out-d} {size-d = size-d} loose h y k z =
+    let there = accepted text d size-d (normalize text d (length out-d) size-d) refl (record { answer = k .answer; stats = k .stats; output = k .output }) z in
+    h .folds y d (length out-d) size-d _ _ loose there

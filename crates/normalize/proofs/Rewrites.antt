@@ -6,11 +6,10 @@ use mathlib.Core.List.{List, [], _∷_, map}
 use mathlib.Core.Logic.{inl, inr}
 use mathlib.Core.Path.{_≡_, refl, sym, ap, _∙_}
 use lib.ListN.{length}
-use Rattle.gfa_spec.specs.Bytes.{any, count, keep, sum}
+use Rattle.gfa_spec.specs.Bytes.{any, count, keep, sum, distinct}
 use Rattle.gfa_spec.specs.Reading.{Entry, Segment}
 use Rattle.gfa_spec.specs.Records.{segments, links, paths, isSelfLink}
 use Rattle.gfa_spec.specs.Runs.{pairs}
-use Rattle.gfa_spec.proofs.Tests.{distinct}
 use Rattle.normalize_spec.specs.Folding.{isFolded, folded, sameNewNode, sameNewStep, transform}
 use Rattle.normalize_spec.specs.Links.{isRemoved, kept, added}
 use Rattle.normalize_spec.specs.Writing.{rewritten}
@@ -19,10 +18,10 @@ use Rattle.normalize_spec.specs.Services.{normal, fitted}
 use Rattle.work.specs.Rows.{rowsAt, span, Only}
 use Rattle.work.proofs.Rows.{Kept, only-kept, kept-within, rows-length}
 use Rattle.writers.proofs.Writing.{measured, measured-long, written}
-use Rattle.gfa.specs.declared.counts.Pairs.{Pairs}
-use Rattle.gfa.specs.declared.tables.Bases.{Bases}
-use Rattle.gfa.specs.declared.tables.Counts.{Counts}
-use Rattle.gfa.specs.Segments.{segmentsAt}
+use Rattle.runs.specs.declared.counts.Pairs.{Pairs}
+use Rattle.tables.specs.declared.tables.Bases.{Bases}
+use Rattle.tables.specs.declared.tables.Counts.{Counts}
+use Rattle.tables.specs.Segments.{segmentsAt}
 use Rattle.normalize_tables.specs.declared.layout.Layout.{Layout}
 use Rattle.normalize_tables.specs.declared.layout.Made.{Made}
 use Rattle.normalize_tables.specs.Layout.{Source}

@@ -21,20 +21,20 @@ use Rattle.normalize_spec.specs.Services.{Normal, normal, fold, fitted, normali
 use Rattle.normalize_spec.proofs.Demand.{fold-accepts}
 use Rattle.work.specs.Rows.{span, Only}
 use Rattle.work.proofs.Rows.{Kept, only-kept}
-use Rattle.gfa.specs.declared.input.Answer.{Answer}
-use Rattle.gfa.specs.declared.input.Input.{Input}
-use Rattle.gfa.specs.declared.input.Input.the-variants as input
-use Rattle.gfa.specs.declared.spelling.Steps.{Steps}
-use Rattle.gfa.specs.declared.spelling.Steps.the-variants as steps
-use Rattle.gfa.specs.declared.tables.Bases.{Bases}
-use Rattle.gfa.specs.declared.tables.Counts.{Counts}
-use Rattle.gfa.specs.Links.{linksAt}
-use Rattle.gfa.specs.Paths.{pathsAt}
-use Rattle.gfa.specs.Entries.{entriesAt}
-use Rattle.gfa.specs.Inputs.{stated, InputRead, InputIs}
-use Rattle.gfa.specs.Passes.{overRows}
-use Rattle.gfa.specs.Served.{refusedWith}
-use Rattle.gfa.specs.Spelled.{BadStepIs}
+use Rattle.reader.specs.declared.answers.Answer.{Answer}
+use Rattle.reader.specs.declared.input.Input.{Input}
+use Rattle.reader.specs.declared.input.Input.the-variants as input
+use Rattle.speller.specs.declared.spelling.Steps.{Steps}
+use Rattle.speller.specs.declared.spelling.Steps.the-variants as steps
+use Rattle.tables.specs.declared.tables.Bases.{Bases}
+use Rattle.tables.specs.declared.tables.Counts.{Counts}
+use Rattle.tables.specs.Links.{linksAt}
+use Rattle.tables.specs.Paths.{pathsAt}
+use Rattle.tables.specs.Entries.{entriesAt}
+use Rattle.reader.specs.Inputs.{stated, InputRead, InputIs}
+use Rattle.runs.specs.Counts.{overRows}
+use Rattle.reader.specs.Served.{refusedWith}
+use Rattle.speller.specs.Spelled.{BadStepIs}
 use Rattle.normalize_tables.specs.declared.layout.Layout.{Layout}
 use Rattle.normalize_tables.specs.Layout.{Placed, Source}
 use Rattle.normalize_tables.specs.Marks.{Marked}

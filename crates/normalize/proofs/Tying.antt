@@ -5,11 +5,10 @@ use mathlib.Core.Bool.{Bool, true, not}
 use mathlib.Core.List.{List, map}
 use mathlib.Core.Path.{_≡_, refl, sym, ap, _∙_}
 use lib.ListN.{length}
-use Rattle.gfa_spec.specs.Bytes.{any, count, keep, join, sum}
+use Rattle.gfa_spec.specs.Bytes.{any, count, keep, join, sum, distinct}
 use Rattle.gfa_spec.specs.Reading.{Entry, Segment}
 use Rattle.gfa_spec.specs.Records.{segments, links, paths}
 use Rattle.gfa_spec.specs.Runs.{runs, stepCount}
-use Rattle.gfa_spec.proofs.Tests.{distinct}
 use Rattle.gfa_spec.proofs.Texts.{parse-distinct}
 use Rattle.gfa_spec.proofs.Admission.{input-entries}
 use Rattle.normalize_spec.specs.Folding.{folded, isFolded, isFoldedRun, transform, taken}
@@ -17,14 +16,14 @@ use Rattle.normalize_spec.specs.Links.{isRemoved, keyOf, kept, adjacent, missin
 use Rattle.normalize_spec.specs.Counting.{foldedRuns}
 use Rattle.normalize_spec.proofs.Segments.{ids, paths-sound, sound-differ}
 use Rattle.work.proofs.Rows.{Kept}
-use Rattle.gfa.specs.declared.tables.Bases.{Bases}
-use Rattle.gfa.specs.declared.tables.Counts.{Counts}
-use Rattle.gfa.specs.Segments.{segmentsAt, idsOf}
-use Rattle.gfa.specs.Paths.{pathsAt}
-use Rattle.gfa.specs.Entries.{entriesAt}
-use Rattle.gfa.specs.Inputs.{InputRead}
-use Rattle.gfa.proofs.Standing.{Standing}
-use Rattle.gfa.proofs.Totals.{readable, over-entries}
+use Rattle.tables.specs.declared.tables.Bases.{Bases}
+use Rattle.tables.specs.declared.tables.Counts.{Counts}
+use Rattle.tables.specs.Segments.{segmentsAt, idsOf}
+use Rattle.tables.specs.Paths.{pathsAt}
+use Rattle.tables.specs.Entries.{entriesAt}
+use Rattle.reader.specs.Inputs.{InputRead}
+use Rattle.tables.proofs.Standing.{Standing}
+use Rattle.runs.proofs.Totals.{readable, over-entries}
 use Rattle.normalize_tables.specs.declared.layout.Layout.{Layout}
 use Rattle.normalize_tables.specs.declared.layout.Made.{Made}
 use Rattle.normalize_tables.specs.Layout.{Placed, Source}

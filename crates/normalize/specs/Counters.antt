@@ -6,11 +6,11 @@ use Rattle.gfa_spec.specs.Bytes.{count}
 use Rattle.gfa_spec.specs.Records.{isSelfLink}
 use Rattle.gfa_spec.specs.Runs.{pairs, sameNode, sameStep}
 use Rattle.normalize_spec.specs.Counting.{Stats}
-use Rattle.gfa.specs.declared.counts.Pairs.{Pairs}
-use Rattle.gfa.specs.declared.tables.Bases.{Bases}
-use Rattle.gfa.specs.declared.tables.Counts.{Counts}
-use Rattle.gfa.specs.Links.{linksAt}
-use Rattle.gfa.specs.Passes.{overRows}
+use Rattle.runs.specs.declared.counts.Pairs.{Pairs}
+use Rattle.tables.specs.declared.tables.Bases.{Bases}
+use Rattle.tables.specs.declared.tables.Counts.{Counts}
+use Rattle.tables.specs.Links.{linksAt}
+use Rattle.runs.specs.Counts.{overRows}
 use Rattle.normalize_tables.specs.declared.layout.Made.{Made}
 use Rattle.relink.specs.declared.settle.Links.{Links}
 use Rattle.normalize.specs.declared.stats.NormalizeSelfLoopsStats.{NormalizeSelfLoopsStats}

@@ -1,5 +1,6 @@
 -- What a normalization returns and leaves behind, and what every accepted one keeps. Document 01, "Refused calls" and "Folding".
 use Prim.Native.Nat.{ℕ}
+use mathlib.Core.Bool.{true}
 use mathlib.Core.List.{List}
 use mathlib.Core.Path.{_≡_}
 use lib.ListN.{length, take, replicate}
@@ -7,8 +8,8 @@ use Rattle.gfa_spec.specs.Reading.{Entry, parsed, parse}
 use Rattle.gfa_spec.specs.Calls.{Outcome, answer}
 use Rattle.normalize_spec.specs.Counting.{Stats}
 use Rattle.normalize_spec.specs.Services.{Normal, normal, normalize}
-use Rattle.normalize_spec.specs.Guarantees.{Kept, Counted}
-use Rattle.gfa.specs.Served.{answerOf, outputOf}
+use Rattle.normalize_spec.specs.Guarantees.{looser, Kept, Counted, Monotone}
+use Rattle.reader.specs.Served.{answerOf, outputOf}
 use Rattle.normalize.specs.declared.returning.NormalizeSelfLoopsResult.{NormalizeSelfLoopsResult}
 use Rattle.normalize.specs.Counters.{noCounters, counters}
 
@@ -38,6 +39,11 @@ pub record Keeps (text : List ℕ) (cap : ℕ) (output : List ℕ) (st : Stats) 
   pub kept : Kept before cap output after
   pub counted : Counted before after st
 
+-- Demand 3 of two outputs for one text, the second with a cap as loose or looser: read again, what the tighter cap folded the looser one folded, and no path of the
+-- looser one's output has more steps.
+pub record LooserFolds (text : List ℕ) (c d : ℕ) (output-c output-d : List ℕ) : Type 0 where
+  pub monotone : (es after-c after-d : List Entry) → parse text ≡ parsed es → parse output-c ≡ parsed after-c → parse output-d ≡ parsed after-d → Monotone es c d after-c after-d
+
 -- What the public call returns, and leaves in the output and in a work area of `size` words: which definition each part equals.
 pub record Normalized (text : List ℕ) (cap : ℕ) (out out' : List ℕ) (size : ℕ) (work' : List ℕ) (r : NormalizeSelfLoopsResult) : Type 0 where
   -- number, line, from and length
@@ -50,3 +56,6 @@ pub record Normalized (text : List ℕ) (cap : ℕ) (out out' : List ℕ) (size 
   pub cleared : work' ≡ replicate size 0
   -- demand 3, of the bytes that now stand at the front of the output
   pub kept : r .answer .number ≡ 0 → Keeps text cap (take (r .answer .length) out') (counters (r .stats))
+  -- and, against any call with a cap d as loose or looser that is accepted, whatever room and work area it was lent: it folds at least as much
+  pub folds : r .answer .number ≡ 0 → (d room words : ℕ) (output : List ℕ) (st : Stats) → looser cap d ≡ true → normalize text d room words ≡ normal output st
+      → LooserFolds text cap d (take (r .answer .length) out') output

@@ -1,19 +1,20 @@
 -- The tables of an admitted text, tied to its entries.
+use Prim.Native.Nat.{ℕ}
 use mathlib.Core.Bool.{true}
 use mathlib.Core.List.{List}
 use mathlib.Core.Path.{_≡_}
-use Prim.Native.Nat.{ℕ}
 use lib.ListN.{length}
+use Rattle.gfa_spec.specs.Bytes.{distinct}
 use Rattle.gfa_spec.specs.Reading.{Entry}
 use Rattle.gfa_spec.specs.Records.{segments, links, paths}
-use Rattle.gfa.specs.declared.tables.Bases.{Bases}
-use Rattle.gfa.specs.declared.tables.Counts.{Counts}
-use Rattle.gfa_spec.proofs.Tests.{distinct}
-use Rattle.gfa.specs.Segments.{segmentsAt, idsOf}
-use Rattle.gfa.specs.Links.{linksAt}
-use Rattle.gfa.specs.Paths.{pathsAt}
-use Rattle.gfa.specs.Entries.{entriesAt}
-use Rattle.gfa.specs.Passes.{Readable, overRows}
+use Rattle.tables.specs.declared.tables.Bases.{Bases}
+use Rattle.tables.specs.declared.tables.Counts.{Counts}
+use Rattle.tables.specs.Segments.{segmentsAt, idsOf}
+use Rattle.tables.specs.Links.{linksAt}
+use Rattle.tables.specs.Paths.{pathsAt}
+use Rattle.tables.specs.Entries.{entriesAt}
+use Rattle.tables.specs.Tables.{Readable}
+use Rattle.runs.specs.Counts.{overRows}
 
 -- The tables hold the entries es, their segments, their links and their paths.
 pub record Tied (es : List Entry) (text work : List ℕ) (b : Bases) (n : Counts) : Type 0 where

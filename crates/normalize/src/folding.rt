@@ -1,6 +1,6 @@
 // A text of which some segment is folded: bad steps first, then rules 4 to 7.
 ghost use mathlib.Core.Path.{_≡_};
-ghost use Rattle.gfa.specs.Entries.{entriesAt};
+ghost use Rattle.tables.specs.Entries.{entriesAt};
 ghost use Rattle.normalize_tables.specs.Layout.{Source};
 ghost use Rattle.normalize.specs.Folding.{badAnswerIn, Marks, FoldIs};
 ghost use Rattle.normalize.specs.Tied.{Tied};
@@ -8,13 +8,13 @@ use crate::returning::NormalizeSelfLoopsResult;
 use crate::returning::refused;
 use crate::rewriting::rewrite_text;
 use crate::stats::NormalizeSelfLoopsStats;
-use gfa::input::Answer;
-use gfa::services::plain;
-use gfa::spelling::Steps;
-use gfa::spelling::bad_step;
-use gfa::tables::Bases;
-use gfa::tables::Counts;
 use normalize_tables::layout::Layout;
+use reader::answers::Answer;
+use reader::answers::plain;
+use speller::spelling::Steps;
+use speller::spelling::bad_step;
+use tables::tables::Bases;
+use tables::tables::Counts;
 use targets::folded::mark_folded;
 
 // The refusal of a bad step.

@@ -6,8 +6,8 @@ ghost use Rattle.normalize.specs.Counters.{noCounters, counters};
 ghost use Rattle.normalize.specs.Served.{NormalAnswered};
 use crate::stats::NormalizeSelfLoopsStats;
 use crate::stats::no_stats;
-use gfa::input::Answer;
-use gfa::services::plain;
+use reader::answers::Answer;
+use reader::answers::plain;
 use writers::bytes::put_constant;
 
 // What a normalization returns: its answer, and its statistics, which are all 0 on a refusal.

@@ -9,15 +9,16 @@ use crate::returning::refused;
 use crate::stats::NormalizeSelfLoopsStats;
 use fold::pairs::new_pairs;
 use fold::paths::transform;
-use gfa::counts::Pairs;
-use gfa::services::plain;
-use gfa::tables::Bases;
-use gfa::tables::Counts;
+use normalize_tables::layout::Area;
 use normalize_tables::layout::Layout;
 use normalize_tables::layout::Made;
+use reader::answers::plain;
 use relink::settle::Links;
 use relink::settle::settle_links;
 use rewrite::rewritten::put_rewritten;
+use runs::counts::Pairs;
+use tables::tables::Bases;
+use tables::tables::Counts;
 
 // The counters of a text that is rewritten: those of the input stay.
 pub fn rewritten_stats(
@@ -51,24 +52,21 @@ pub fn rewritten_stats(
 pub fn write_text(
     text: &[u8],
     work: &[u32],
-    b: Bases,
-    n: Counts,
-    g: Layout,
-    m: Made,
+    a: Area,
     extra: usize,
     stats: NormalizeSelfLoopsStats,
     out: &mut [u8],
 ) -> NormalizeSelfLoopsResult
-    requires { ⌜ Writable (now text) (now work) b n g m extra ⌝ }
-    ensures { λ r. ⌜ WriteIs (now (text .entry)) (now (work .entry)) b n g m extra stats (now (out .entry)) (now (out .exit)) r ⌝ }
+    requires { ⌜ Writable (now text) (now work) (a .b) (a .n) (a .g) (a .m) extra ⌝ }
+    ensures { λ r. ⌜ WriteIs (now (text .entry)) (now (work .entry)) (a .b) (a .n) (a .g) (a .m) extra stats (now (out .entry)) (now (out .exit)) r ⌝ }
 {
     let room = out.len();
     let limit = room + 1;
-    let need = put_rewritten(&mut out[..0], limit, text, work, b, n, g, m, extra);
+    let need = put_rewritten(&mut out[..0], limit, text, work, a, extra);
     if room < need {
         return refused(plain(22, 0));
     }
-    put_rewritten(out, limit, text, work, b, n, g, m, extra);
+    put_rewritten(out, limit, text, work, a, extra);
     NormalizeSelfLoopsResult {
         answer: plain(0, need),
         stats,
@@ -90,8 +88,9 @@ pub fn rewrite_text(
     ensures { λ r. ⌜ RewriteIs (now (text .entry)) (now (work .entry)) b n g nodes stats (now (out .entry)) (now (out .exit)) r ⌝ }
 {
     let m = transform(text, work, b, n, g);
-    let l = settle_links(text, work, b, n, g, m);
+    let a = Area { b, n, g, m };
+    let l = settle_links(text, work, a);
     let pairs = new_pairs(work, b, n, g, m);
     let counted = rewritten_stats(stats, nodes, m, l, pairs);
-    write_text(text, work, b, n, g, m, l.added, counted, out)
+    write_text(text, work, a, l.added, counted, out)
 }

@@ -1,12 +1,12 @@
 // The statistics of a normalization (document 01, "Folding", the fourteen counters).
 ghost use mathlib.Core.Path.{_≡_};
-ghost use Rattle.gfa.specs.Passes.{Readable};
+ghost use Rattle.tables.specs.Tables.{Readable};
 ghost use Rattle.normalize.specs.Counters.{noCounters, counters, inputCounters, InputStats};
-use gfa::counts::Pairs;
-use gfa::counts::all_pairs;
-use gfa::counts::self_links;
-use gfa::tables::Bases;
-use gfa::tables::Counts;
+use runs::counts::Pairs;
+use runs::counts::all_pairs;
+use runs::counts::self_links;
+use tables::tables::Bases;
+use tables::tables::Counts;
 
 // The counters, named and ordered as in the Rust.
 #[repr(C)]

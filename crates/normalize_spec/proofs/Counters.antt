@@ -10,6 +10,7 @@ use Rattle.gfa_spec.specs.Reading.{Step, Path, Entry}
 use Rattle.gfa_spec.specs.Records.{links, paths, isSelfLink, selfLinks}
 use Rattle.gfa_spec.specs.Runs.{sameNode, sameStep, pairs, overPaths, sameNodePairs, sameStepPairs, stepCount}
 use Rattle.gfa_spec.proofs.Tests.{by-test}
+use Rattle.gfa_spec.proofs.Counting.{count-append}
 use Rattle.normalize_spec.specs.Folding.{NewStep, sameNewNode, sameNewStep, asNew, transform}
 use Rattle.normalize_spec.specs.Links.{kept, added}
 use Rattle.normalize_spec.specs.Counting.{unchanged, rewrittenStats}
@@ -18,12 +19,6 @@ use Rattle.normalize_spec.proofs.Output.{asLink}
 use Rattle.normalize_spec.proofs.Reread.{Reread}
 
 -- ---- counts
-
--- the count in two lists in a row
-count-append : {A : Type 0} (p : A → Bool) (xs ys : List A) → count p (xs ++ ys) ≡ count p xs + count p ys
-unfolding count
-count-append p [] ys = omega arith
-count-append p (x ∷ xs) ys = by-test (p x) (λ e. rw e (omega (arith, count-append p xs ys))) (λ e. rw e (count-append p xs ys))
 
 -- the count of images
 count-map : {A B : Type 0} (p : B → Bool) (f : A → B) (xs : List A) → count p (map f xs) ≡ count (λ x. p (f x)) xs

@@ -6,7 +6,7 @@ use mathlib.Core.List.{List, [], _∷_, _++_, map, map-map}
 use mathlib.Core.Option.{none}
 use mathlib.Core.Path.{_≡_, refl, sym, ap, _∙_}
 use lib.ListN.{length, length-map}
-use Rattle.gfa_spec.specs.Bytes.{isEmpty, any, sum, nth}
+use Rattle.gfa_spec.specs.Bytes.{isEmpty, any, sum, nth, Each}
 use Rattle.gfa_spec.specs.Reading.{Step, Segment, Path, Entry, parsed, parse}
 use Rattle.gfa_spec.specs.Records.{segments, paths, sequenceOf}
 use Rattle.gfa_spec.specs.Runs.{Run, runs, isRepeat, pairs}
@@ -14,7 +14,7 @@ use Rattle.gfa_spec.specs.Sequences.{complement}
 use Rattle.gfa_spec.specs.Spelling.{spell}
 use Rattle.gfa_spec.proofs.Tests.{by-test, same-refl}
 use Rattle.gfa_spec.proofs.Known.{Known, all-known, spelt-known, none-bad}
-use Rattle.gfa_spec.proofs.Each.{Each, each-implies, each-map, nth-map, nth-each}
+use Rattle.gfa_spec.proofs.Each.{each-implies, each-map, nth-map, nth-each}
 use Rattle.normalize_spec.specs.Folding.{folded, isFoldedRun, Made, NewStep, sameNewStep, asNew, transform}
 use Rattle.normalize_spec.specs.Guarantees.{looser, stepsOf, loss, Kept, Monotone, lossOf}
 use Rattle.gfa_spec.specs.Calls.{badByte}

@@ -1,7 +1,7 @@
 -- The graphs that document 01 marks (p) under "Graphs to try", as one computed table, and its wrong ideas, refuted. Assumes nothing.
 use Prim.Native.Nat.{ℕ, _+_, _-_, _*_}
-use native.Mathlib.Omega.{arith}
 use Prim.Native.String.{String}
+use native.Mathlib.Omega.{arith}
 use mathlib.Core.Bool.{Bool, true, false, _&&_}
 use mathlib.Core.List.{List, [], _∷_, map}
 use mathlib.Core.Path.{_≡_, refl}

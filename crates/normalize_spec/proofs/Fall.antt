@@ -7,11 +7,11 @@ use mathlib.Core.Option.{Option, some}
 use mathlib.Core.Path.{_≡_, refl, sym, ap, _∙_}
 use lib.Dec.{eqb}
 use borrow.Author.Tests.{eqb-true, eq-eqb}
-use Rattle.gfa_spec.specs.Bytes.{same, any, sum, join, copies}
+use Rattle.gfa_spec.specs.Bytes.{same, any, sum, join, copies, Each}
 use Rattle.gfa_spec.specs.Reading.{Step, Segment}
 use Rattle.gfa_spec.specs.Runs.{Run, runs, sameStep, pairs, bit}
 use Rattle.gfa_spec.proofs.Tests.{by-test, clash, and-left, and-right, refute, same-refl, same-equal}
-use Rattle.gfa_spec.proofs.Each.{Each, each-both}
+use Rattle.gfa_spec.proofs.Each.{each-both}
 use Rattle.gfa_spec.proofs.Runs.{equal-steps, Separate, sep-none, sep-last, sep-next, separate-count, runs-separate, excess, pairs-excess, runs-each}
 use Rattle.normalize_spec.specs.Folding.{isFoldedRun, New, Made, NewStep, sameNewNode, sameNewStep, asNew}
 use Rattle.normalize_spec.specs.Guarantees.{loss, lossOf}

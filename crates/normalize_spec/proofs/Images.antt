@@ -7,12 +7,12 @@ use mathlib.Core.Option.{Option, none, some}
 use mathlib.Core.Path.{_≡_, refl, sym, ap, _∙_}
 use lib.Dec.{eqb}
 use borrow.Author.Tests.{eq-eqb}
-use Rattle.gfa_spec.specs.Bytes.{same, join, copies}
+use Rattle.gfa_spec.specs.Bytes.{same, join, copies, Each}
 use Rattle.gfa_spec.specs.Reading.{Segment, Path, Entry}
 use Rattle.gfa_spec.specs.Records.{segments, paths}
 use Rattle.gfa_spec.specs.Runs.{Run, runs}
 use Rattle.gfa_spec.proofs.Tests.{by-test, same-refl}
-use Rattle.gfa_spec.proofs.Each.{Each, each-append}
+use Rattle.gfa_spec.proofs.Each.{each-append}
 use Rattle.gfa_spec.proofs.Copies.{each-copies}
 use Rattle.normalize_spec.specs.Folding.{folded, isFoldedRun, New, Made, madeFor, newSegment, makeSegment, NewStep, asNew, onto, foldRun, keepRun, transformRuns, transformPaths, noneMade, transform, turn}
 

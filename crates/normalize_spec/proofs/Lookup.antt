@@ -7,11 +7,11 @@ use mathlib.Core.Option.{Option, none, some, Option·some-injective}
 use mathlib.Core.Path.{_≡_, refl, sym, ap, _∙_}
 use lib.Dec.{eqb}
 use borrow.Author.Tests.{eqb-true, not-true}
-use Rattle.gfa_spec.specs.Bytes.{same, any, all, repeat}
+use Rattle.gfa_spec.specs.Bytes.{same, any, all, repeat, distinct, Each}
 use Rattle.gfa_spec.specs.Reading.{Segment}
 use Rattle.gfa_spec.specs.Records.{sequenceOf, sequenceOrEmpty}
-use Rattle.gfa_spec.proofs.Tests.{by-test, clash, and-left, and-right, or-left, or-right, refute, same-refl, same-equal, equal-same, same-sym, apart-absent, distinct}
-use Rattle.gfa_spec.proofs.Each.{Each, each-implies, all-each}
+use Rattle.gfa_spec.proofs.Tests.{by-test, clash, and-left, and-right, or-left, or-right, refute, same-refl, same-equal, equal-same, same-sym, apart-absent}
+use Rattle.gfa_spec.proofs.Each.{each-implies, all-each}
 use Rattle.gfa_spec.proofs.Copies.{repeat-all}
 use Rattle.normalize_spec.specs.Folding.{New, Made, madeFor}
 use Rattle.normalize_spec.specs.Services.{asSegment}

@@ -5,11 +5,11 @@ use mathlib.Core.List.{List, [], _∷_, _++_, map}
 use mathlib.Core.Option.{Option, none, some, Option·elim, Option·map}
 use mathlib.Core.Path.{_≡_, refl, ap, _∙_}
 use borrow.Author.Tests.{not-true}
-use Rattle.gfa_spec.specs.Bytes.{same, any, keep, nth}
+use Rattle.gfa_spec.specs.Bytes.{same, any, keep, nth, distinct}
 use Rattle.gfa_spec.specs.Reading.{Segment, Link, Entry}
 use Rattle.gfa_spec.specs.Records.{segments, segmentNumber}
 use Rattle.gfa_spec.specs.Runs.{Run, isRepeat}
-use Rattle.gfa_spec.proofs.Tests.{by-test, and-left, and-right, or-left, or-right, same-equal, same-sym, any-append, any-keep, distinct}
+use Rattle.gfa_spec.proofs.Tests.{by-test, and-left, and-right, or-left, or-right, same-equal, same-sym, any-append, any-keep}
 use Rattle.normalize_spec.specs.Folding.{selfLinked, isFolded, folded, isFoldedRun}
 
 -- ---- names and numbers

@@ -4,15 +4,15 @@ use native.Mathlib.Omega.{arith}
 use mathlib.Core.Bool.{true, false, not, _&&_}
 use mathlib.Core.List.{List, [], _∷_, _++_, map}
 use mathlib.Core.Path.{_≡_, refl}
-use borrow.Author.Tests.{eqb-true, leb-true, lt-leb, not-true}
 use lib.Dec.{eqb, leb}
-use Rattle.gfa_spec.specs.Bytes.{any, all, isEmpty, join}
+use borrow.Author.Tests.{eqb-true, leb-true, lt-leb, not-true}
+use Rattle.gfa_spec.specs.Bytes.{any, all, isEmpty, join, Each}
 use Rattle.gfa_spec.specs.Decimal.{isDigit}
 use Rattle.gfa_spec.specs.Reading.{Step, Segment, Kind, P, W, Path, Entry}
 use Rattle.gfa_spec.specs.Records.{paths}
 use Rattle.gfa_spec.specs.Runs.{Run, runs}
 use Rattle.gfa_spec.proofs.Tests.{by-test, clash, and-left, and-right, or-either, refute}
-use Rattle.gfa_spec.proofs.Each.{Each, Lacks, each-join, each-both, each-implies, each-map, each-of-map, all-each}
+use Rattle.gfa_spec.proofs.Each.{Lacks, each-join, each-both, each-implies, each-map, each-of-map, all-each}
 use Rattle.gfa_spec.proofs.Runs.{runs-each}
 use Rattle.gfa_spec.proofs.Clean.{isLineByte, isFieldByte, FieldBytes}
 use Rattle.normalize_spec.specs.Folding.{folded, isFoldedRun, isPlain, New, NewStep, asNew, transform}

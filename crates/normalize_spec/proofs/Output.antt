@@ -3,11 +3,10 @@ use Prim.Native.Nat.{ℕ}
 use mathlib.Core.Bool.{true}
 use mathlib.Core.List.{List, [], _∷_, _++_, map, map-map, map-append, append-nil, append-assoc}
 use mathlib.Core.Path.{_≡_, refl, ap, _∙_}
-use Rattle.gfa_spec.specs.Bytes.{keep, join, ended}
+use Rattle.gfa_spec.specs.Bytes.{keep, join, ended, distinct}
 use Rattle.gfa_spec.specs.Reading.{Segment, Link, Path, Entry, segment, link, path, idOf, choose}
 use Rattle.gfa_spec.specs.Records.{leading, others, segments, paths}
 use Rattle.gfa_spec.specs.Runs.{runs}
-use Rattle.gfa_spec.proofs.Tests.{distinct}
 use Rattle.gfa_spec.proofs.Texts.{ids-segments}
 use Rattle.gfa_spec.proofs.Rereading.{written}
 use Rattle.gfa_spec.proofs.Sorts.{Sorted, sorted-append, sorted-segments, sorted-links, sorted-paths, isLeading, isOther, sorted-leading, sorted-others, leading-written, others-written}

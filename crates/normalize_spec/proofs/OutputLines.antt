@@ -3,9 +3,9 @@ use Prim.Native.Nat.{ℕ, zero, suc}
 use mathlib.Core.Bool.{true, false}
 use mathlib.Core.List.{List, [], _∷_, map}
 use mathlib.Core.Path.{_≡_, refl, sym, ap, _∙_}
-use Rattle.gfa_spec.specs.Bytes.{bytes, tabbed, one, nil}
+use Rattle.gfa_spec.specs.Bytes.{bytes, tabbed, one, nil, Each}
 use Rattle.gfa_spec.specs.Reading.{fields, Step, Path, Entry, segment, link, path, idOf, mapRead, Kind, P, W, choose}
-use Rattle.gfa_spec.proofs.Each.{Each, Lacks, each-implies}
+use Rattle.gfa_spec.proofs.Each.{Lacks, each-implies}
 use Rattle.gfa_spec.proofs.Steps.{by-orientation}
 use Rattle.gfa_spec.proofs.Places.{unplaced, eraseStep, erasePath, erase}
 use Rattle.gfa_spec.proofs.Clean.{isLineByte, isFieldByte, LineBytes, FieldBytes, untabbed, tabbed-clean}

@@ -5,12 +5,12 @@ use mathlib.Core.Bool.{Bool, true, false, not}
 use mathlib.Core.List.{List, _++_, map, map-map}
 use mathlib.Core.Option.{none}
 use mathlib.Core.Path.{_≡_, refl, sym, ap, _∙_}
-use Rattle.gfa_spec.specs.Bytes.{keep}
+use Rattle.gfa_spec.specs.Bytes.{keep, Each}
 use Rattle.gfa_spec.specs.Reading.{fields, Path, Entry, segment, link, path, Parsed, refusedAt, parsed, parse, choose}
 use Rattle.gfa_spec.specs.Records.{leading, others, segments, links, paths}
 use Rattle.gfa_spec.specs.Runs.{runs}
 use Rattle.gfa_spec.specs.Calls.{badByte}
-use Rattle.gfa_spec.proofs.Each.{Each, each-append, each-both, each-implies, each-map, each-of-map, each-keep, all-each, each-all}
+use Rattle.gfa_spec.proofs.Each.{each-append, each-both, each-implies, each-map, each-of-map, each-keep, all-each, each-all}
 use Rattle.gfa_spec.proofs.Places.{unplaced, eraseStep, erasePath, erase, eraseParsed}
 use Rattle.gfa_spec.proofs.Entries.{line-holds}
 use Rattle.gfa_spec.proofs.Clean.{isFieldByte, FieldBytes, fields-clean}

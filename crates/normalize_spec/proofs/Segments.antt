@@ -6,12 +6,12 @@ use mathlib.Core.List.{List, [], _∷_, _++_, map, map-append, append-nil, appen
 use mathlib.Core.Option.{Option, none, some}
 use mathlib.Core.Path.{_≡_, refl, _∙_}
 use borrow.Author.Tests.{lt-ltb}
-use Rattle.gfa_spec.specs.Bytes.{same, any, all, repeat}
+use Rattle.gfa_spec.specs.Bytes.{same, any, all, repeat, distinct}
 use Rattle.gfa_spec.specs.Decimal.{decimal, numberOf}
 use Rattle.gfa_spec.specs.Reading.{Segment, Path, Entry}
 use Rattle.gfa_spec.specs.Records.{segments, paths, sequenceOrEmpty}
 use Rattle.gfa_spec.specs.Runs.{Run, runs}
-use Rattle.gfa_spec.proofs.Tests.{by-test, or-left, or-right, same-refl, any-append, all-append, all-implies, distinct, apart, distinct-append}
+use Rattle.gfa_spec.proofs.Tests.{by-test, or-left, or-right, same-refl, any-append, all-append, all-implies, apart, distinct-append}
 use Rattle.gfa_spec.proofs.Decimal.{number-decimal}
 use Rattle.normalize_spec.specs.Folding.{folded, isFoldedRun, largestId, usable, newId, nextAfter, New, Made, madeFor, taken, newSegment, makeSegment, onto, foldRun, keepRun, transformRuns, transformPaths, noneMade, transform, turn}
 use Rattle.normalize_spec.proofs.Ids.{below, below-number, below-more, newId-free, newId-number, next-usable, largest-bound, isName, newId-name}

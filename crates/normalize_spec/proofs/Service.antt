@@ -5,9 +5,9 @@ use mathlib.Core.Bool.{true, false}
 use mathlib.Core.List.{List}
 use mathlib.Core.Option.{Option, none, some}
 use mathlib.Core.Path.{_≡_, refl}
-use borrow.Author.Tests.{ltb-false, le-ltb}
 use lib.Dec.{ltb}
 use lib.ListN.{length}
+use borrow.Author.Tests.{ltb-false, le-ltb}
 use Rattle.gfa_spec.specs.Bytes.{isEmpty}
 use Rattle.gfa_spec.specs.Reading.{Entry, parsed, parse}
 use Rattle.gfa_spec.specs.Records.{paths}

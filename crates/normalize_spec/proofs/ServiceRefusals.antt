@@ -6,9 +6,9 @@ use mathlib.Core.List.{List}
 use mathlib.Core.Logic.{_⊎_, inl, inr}
 use mathlib.Core.Option.{Option, none, some}
 use mathlib.Core.Path.{_≡_, refl, sym, _∙_}
-use borrow.Author.Tests.{ltb-true, lt-ltb}
 use lib.Dec.{ltb}
 use lib.ListN.{length}
+use borrow.Author.Tests.{ltb-true, lt-ltb}
 use Rattle.gfa_spec.specs.Bytes.{isEmpty}
 use Rattle.gfa_spec.specs.Reading.{Entry}
 use Rattle.gfa_spec.specs.Records.{paths}

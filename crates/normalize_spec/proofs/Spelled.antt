@@ -4,14 +4,14 @@ use mathlib.Core.Bool.{true}
 use mathlib.Core.List.{List, [], _∷_, _++_, map, append-nil, map-append}
 use mathlib.Core.Option.{some}
 use mathlib.Core.Path.{_≡_, refl, sym, ap, _∙_}
-use Rattle.gfa_spec.specs.Bytes.{join, copies, repeat}
+use Rattle.gfa_spec.specs.Bytes.{join, copies, repeat, Each}
 use Rattle.gfa_spec.specs.Reading.{Step, Segment}
 use Rattle.gfa_spec.specs.Records.{sequenceOf, sequenceOrEmpty}
 use Rattle.gfa_spec.specs.Runs.{Run, runs}
 use Rattle.gfa_spec.specs.Sequences.{oriented}
 use Rattle.gfa_spec.specs.Spelling.{spelt, behind, spellStep, spell}
 use Rattle.gfa_spec.proofs.Tests.{by-test}
-use Rattle.gfa_spec.proofs.Each.{Each, each-both, each-implies, each-of-map}
+use Rattle.gfa_spec.proofs.Each.{each-both, each-implies, each-of-map}
 use Rattle.gfa_spec.proofs.Runs.{runs-each}
 use Rattle.normalize_spec.specs.Folding.{isFoldedRun, New, Made, NewStep, asNew}
 use Rattle.normalize_spec.specs.Services.{asSegment}

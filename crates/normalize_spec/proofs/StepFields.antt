@@ -1,14 +1,14 @@
 -- The steps that a path line is written with are read again. Assumes nothing.
 use Prim.Native.Nat.{ℕ, suc, _≤_}
+use native.Mathlib.Omega.{arith}
 use mathlib.Core.Bool.{Bool, true, false, cond, _&&_, true≢false}
 use mathlib.Core.List.{List, [], _∷_, _++_, map, dropLast, append-nil}
 use mathlib.Core.Path.{_≡_, refl, ap}
-use native.Mathlib.Omega.{arith}
 use lib.Dec.{eqb}
 use lib.ListN.{length, length-append}
-use Rattle.gfa_spec.specs.Bytes.{same, star, isEmpty, join, joinWith, Part, bytesOf, split, lastByte}
+use Rattle.gfa_spec.specs.Bytes.{same, star, isEmpty, join, joinWith, Part, bytesOf, split, lastByte, Each}
 use Rattle.gfa_spec.specs.Reading.{Step, P, W, Read, refused, accepted, then, isOrientation, isStep, stepOf, parseItems, parsePSteps, isMark, orientationOf, walk, nonEmpty, parseWSteps, mapRead}
-use Rattle.gfa_spec.proofs.Each.{Each, Lacks, each-append, each-implies, each-both, each-of-map, each-map}
+use Rattle.gfa_spec.proofs.Each.{Lacks, each-append, each-implies, each-both, each-of-map, each-map}
 use Rattle.gfa_spec.proofs.Splitting.{split-join}
 use Rattle.gfa_spec.proofs.Answers.{not-accepted, mapRead-accepted}
 use Rattle.gfa_spec.proofs.Steps.{by-orientation, SoundStep, NameLacks, Named, nonEmpty-kept, psteps-sound, psteps-lack-comma, wsteps-sound, wsteps-lack-marks}

@@ -4,14 +4,13 @@ use mathlib.Core.Bool.{true}
 use mathlib.Core.List.{List, [], _++_, map, map-map}
 use mathlib.Core.Path.{_≡_, sym, ap, _∙_}
 use lib.ListN.{length, length-map}
-use Rattle.gfa_spec.specs.Bytes.{join, nth}
+use Rattle.gfa_spec.specs.Bytes.{join, nth, distinct, Each}
 use Rattle.gfa_spec.specs.Reading.{Step, Segment, Entry}
 use Rattle.gfa_spec.specs.Records.{segments, paths, sequenceOf}
 use Rattle.gfa_spec.specs.Runs.{runs, sameStep, pairs}
 use Rattle.gfa_spec.specs.Spelling.{spell}
-use Rattle.gfa_spec.proofs.Tests.{distinct}
 use Rattle.gfa_spec.proofs.Known.{Known}
-use Rattle.gfa_spec.proofs.Each.{Each, each-map, nth-map, nth-each}
+use Rattle.gfa_spec.proofs.Each.{each-map, nth-map, nth-each}
 use Rattle.normalize_spec.specs.Folding.{folded, New, taken, NewStep, sameNewStep, asNew, transform}
 use Rattle.normalize_spec.specs.Services.{asSegment}
 use Rattle.normalize_spec.specs.Guarantees.{stepsOf, loss}

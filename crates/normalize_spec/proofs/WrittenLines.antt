@@ -1,15 +1,15 @@
 -- The lines that are written, of new segments, added links and paths, are read as what they were written for. Assumes nothing.
 use Prim.Native.Nat.{ℕ, suc}
+use native.Mathlib.Omega.{arith}
 use mathlib.Core.Bool.{true, false, cond}
 use mathlib.Core.List.{List, [], _∷_, map, append-nil}
 use mathlib.Core.Path.{_≡_, refl, sym, _∙_}
-use native.Mathlib.Omega.{arith}
-use borrow.Author.Tests.{le-ltb, ne-eqb}
 use lib.Dec.{eqb, ltb}
 use lib.ListN.{length, length-map}
-use Rattle.gfa_spec.specs.Bytes.{bytes, same, star, isEmpty, any, join, joinWith, tabbed, Part, bytesOf, nth}
+use borrow.Author.Tests.{le-ltb, ne-eqb}
+use Rattle.gfa_spec.specs.Bytes.{bytes, same, star, isEmpty, any, join, joinWith, tabbed, Part, bytesOf, nth, Each}
 use Rattle.gfa_spec.specs.Reading.{fields, nowhere, field, Step, Kind, P, W, Path, segment, link, path, accepted, then, isOrientation, parseOrientation, parseS, parseL, parseP, parseW, parseFields, startsComment, parseLine}
-use Rattle.gfa_spec.proofs.Each.{Each, Lacks, each-append, each-join, each-both, each-implies, each-map}
+use Rattle.gfa_spec.proofs.Each.{Lacks, each-append, each-join, each-both, each-implies, each-map}
 use Rattle.gfa_spec.proofs.Splitting.{fields-tabbed, parts-lack}
 use Rattle.gfa_spec.proofs.Steps.{by-orientation}
 use Rattle.gfa_spec.proofs.Places.{nth-bytes}

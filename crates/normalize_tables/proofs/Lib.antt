@@ -3,4 +3,6 @@ pub mod Lists
 pub mod Sources
 pub mod Nodes
 pub mod Numbered
+pub mod NewByNumber
+pub mod NewsKept
 pub mod NewsStand

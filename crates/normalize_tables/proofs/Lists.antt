@@ -8,17 +8,6 @@ use Rattle.gfa_spec.specs.Bytes.{any, count}
 use Rattle.gfa_spec.specs.Runs.{bit}
 use Rattle.gfa_spec.proofs.Tests.{by-test}
 
--- one element
-pub count-one : {A : Type 0} (p : A → Bool) (x : A) → count p (x ∷ []) ≡ bit (p x)
-unfolding count bit
-count-one p x = by-test (p x) (λ e. rw e) (λ e. rw e)
-
--- those of two lists
-pub count-append : {A : Type 0} (p : A → Bool) (xs ys : List A) → count p (xs ++ ys) ≡ count p xs + count p ys
-unfolding count
-count-append p [] ys = omega arith
-count-append p (x ∷ xs) ys = by-test (p x) (λ e. rw (e, count-append p xs ys) (omega arith)) (λ e. rw (e, count-append p xs ys))
-
 module _ {A : Type 0} where
   -- tests that agree at each element
   pub any-alike : {p q : A → Bool} → ((x : A) → p x ≡ q x) → (xs : List A) → any p xs ≡ any q xs

@@ -2,21 +2,24 @@
 use Prim.Native.Nat.{ℕ, _+_, _*_, _≤_}
 use native.Mathlib.Omega.{arith}
 use mathlib.Core.List.{List}
-use mathlib.Core.Path.{_≡_}
-use lib.ListN.{length, getD}
-use Rattle.work.specs.Rows.{EachRow}
-use Rattle.work.proofs.Rows.{Kept, kept-within, rows-kept, each-kept}
-use Rattle.gfa.specs.declared.tables.Bases.{Bases}
-use Rattle.gfa.specs.declared.tables.Counts.{Counts}
-use Rattle.gfa.proofs.TableRows.{segment-kept}
+use mathlib.Core.Path.{_≡_, refl}
+use lib.ListN.{length}
+use Rattle.work.proofs.Rows.{Kept, kept-within, rows-kept}
+use Rattle.tables.specs.declared.tables.Bases.{Bases}
+use Rattle.tables.specs.declared.tables.Counts.{Counts}
+use Rattle.tables.specs.ByNumber.{tablesEnd}
+use Rattle.tables.proofs.ByNumber.{TablesKept}
 use Rattle.normalize_tables.specs.declared.layout.Layout.{Layout}
 use Rattle.normalize_tables.specs.declared.layout.Made.{Made}
 use Rattle.normalize_tables.specs.Layout.{Placed, Source}
-use Rattle.normalize_tables.specs.News.{newAt, newsAt, NewRow, namesAt, newStepAt, newStepsAt, newPathAt, newPathsAt, NewPathRow}
+use Rattle.normalize_tables.specs.News.{newsAt, namesAt, newStepAt, newStepsAt}
+use Rattle.normalize_tables.specs.NewByNumber.{newPathsTo, SegmentRows, SegmentsKept, StepsKept, PathsKept}
 use Rattle.normalize_tables.specs.Rewritten.{NewRows}
-use Rattle.normalize_tables.proofs.Sources.{standing, source-stands}
+use Rattle.normalize_tables.proofs.Sources.{source-stands}
+use Rattle.normalize_tables.proofs.NewByNumber.{segments-words, steps-words, paths-words}
+use Rattle.normalize_tables.proofs.NewsKept.{segment-rows-kept, step-rows-kept, path-rows-kept, new-paths-kept, news-kept as news-stay, names-kept as names-stay}
 
--- ---- steps and paths
+-- ---- steps
 
 module _ {lo hi : ℕ} {w w' : List ℕ} (k : Kept lo hi w w') (names : List (List ℕ)) where
   pub new-step-kept : (at : ℕ) → lo ≤ at → at + 2 ≤ hi → newStepAt names w' at ≡ newStepAt names w at
@@ -27,72 +30,47 @@ module _ {lo hi : ℕ} {w w' : List ℕ} (k : Kept lo hi w w') (names : List (Li
   unfolding newStepsAt
   new-steps-kept base n l h = rows-kept (newStepAt names) 2 base n (λ i a. new-step-kept (base + 2 * i) (omega arith) (omega arith))
 
-  pub new-paths-kept : (steps base n count : ℕ) → lo ≤ base → base + 2 * n ≤ hi → lo ≤ steps → steps + 2 * count ≤ hi → EachRow (NewPathRow count) 2 w base n
-      → newPathsAt names steps w' base n ≡ newPathsAt names steps w base n
-  unfolding newPathsAt newPathAt
-  new-paths-kept steps base n count l h a c e =
-      rows-kept (newPathAt names steps) 2 base n
-      (λ i p.
-      rw (
-        k .word (base + 2 * i) (omega arith) (omega arith),
-        k .word (base + 2 * i + 1) (omega arith) (omega arith),
-        new-steps-kept (steps + 2 * getD w (base + 2 * i) 0) (getD w (base + 2 * i + 1) 0) (omega arith) (omega (arith, e .row i p .steps)),
-      ))
-
 -- ---- rows
 
 module _ {w w' : List ℕ} {b : Bases} {n : Counts} {g : Layout} {m : Made} {size : ℕ} (p : Placed b n g size) (k : Kept 0 (g .added) w w') (r : NewRows w n g m) where
+  segments-stay : SegmentsKept g (m .segs) w w'
+  segments-stay = segments-words g (m .segs) (kept-within (g .segs) (g .segs + 4 * m .segs) k (omega arith) (omega (arith, r .half)))
+
+  steps-stay : StepsKept g (m .steps) w w'
+  steps-stay = steps-words g (m .steps) (kept-within (g .steps) (g .steps + 2 * m .steps) k (omega arith) (omega (arith, r .few)))
+
+  paths-stay : PathsKept g (n .paths) w w'
+  paths-stay = paths-words g (n .paths) (kept-within (g .paths) (g .paths + 2 * n .paths) k (omega arith) (omega arith))
+
   pub new-rows-kept : NewRows w' n g m
   new-rows-kept =
       record {
         few = r .few;
         half = r .half;
-        segs = each-kept (r .segs) (λ i h q. record {
-          unit = rw (k .word (g .segs + 4 * i) (omega arith) (omega (arith, r .half))) (q .unit);
-          count = rw (k .word (g .segs + 4 * i + 1) (omega arith) (omega (arith, r .half))) (q .count);
-          suffix = rw (k .word (g .segs + 4 * i + 2) (omega arith) (omega (arith, r .half))) (q .suffix);
-        });
-        steps = each-kept (r .steps) (λ i h q. record {
-          node = rw (k .word (g .steps + 2 * i) (omega arith) (omega (arith, r .few))) (q .node);
-          mark = rw (k .word (g .steps + 2 * i + 1) (omega arith) (omega (arith, r .few))) (q .mark);
-        });
-        paths = each-kept (r .paths) (λ i h q. record {
-          steps = rw (k .word (g .paths + 2 * i) (omega arith) (omega arith), k .word (g .paths + 2 * i + 1) (omega arith) (omega arith)) (q .steps);
-        });
+        segs = segment-rows-kept n g (r .segs) segments-stay;
+        steps = step-rows-kept g (n .segs + m .segs) (r .steps) steps-stay (omega arith);
+        paths = path-rows-kept g (m .steps) (r .paths) paths-stay (omega arith);
       }
 
-  pub paths-kept : (names : List (List ℕ)) → newPathsAt names (g .steps) w' (g .paths) (n .paths) ≡ newPathsAt names (g .steps) w (g .paths) (n .paths)
-  paths-kept names =
-      new-paths-kept k names (g .steps) (g .paths) (n .paths) (m .steps) (omega arith) (omega arith) (omega arith) (omega (arith, r .few)) (r .paths)
+  pub paths-kept : (names : List (List ℕ)) → newPathsTo names w' g (n .paths) ≡ newPathsTo names w g (n .paths)
+  paths-kept names = new-paths-kept (record { same-name = λ i h. refl }) g steps-stay (r .steps) (n .paths) paths-stay (r .paths)
 
 -- ---- the tables
 
 module _ {text w w' : List ℕ} {b : Bases} {n : Counts} {g : Layout} (s : Source text w b n g) (k : Kept 0 (g .added) w w') where
   -- the tables of the text are before them
-  pub front-kept : Kept (b .lines) (b .steps + 3 * n .steps) w w'
-  front-kept = let p = s .placed in kept-within (b .lines) (b .steps + 3 * n .steps) k (omega arith) (omega arith)
+  pub front-kept : TablesKept b n w w'
+  front-kept = let p = s .placed in kept-within (b .lines) (tablesEnd b n) k (omega arith) (omega arith)
 
   pub source-kept : length w' ≡ length w → Source text w' b n g
   source-kept e = source-stands s front-kept e
 
   -- the new segments
-  pub news-kept : (first q : ℕ) → 2 * q ≤ n .steps → EachRow (NewRow n) 4 w (g .segs) q → newsAt text w' b g first q ≡ newsAt text w b g first q
-  unfolding newsAt newAt
+  pub news-kept : (first q : ℕ) → 2 * q ≤ n .steps → SegmentRows w n g q → newsAt text w' b g first q ≡ newsAt text w b g first q
   news-kept first q h e =
       let p = s .placed in
-      let d = s .readable .laid in
-      rows-kept (newAt text b g first) 1 0 q
-      (λ i a.
-      let j : 0 + 1 * i ≡ i = omega arith in
-      rw j
-      (rw (
-        k .word (g .segs + 4 * i) (omega arith) (omega arith),
-        k .word (g .segs + 4 * i + 1) (omega arith) (omega arith),
-        k .word (g .segs + 4 * i + 2) (omega arith) (omega arith),
-        segment-kept k text (b .segs + 6 * getD w (g .segs + 4 * i) 0) (omega arith) (omega (arith, e .row i a .unit)),
-      )))
+      news-stay s front-kept first e (segments-words g q (kept-within (g .segs) (g .segs + 4 * q) k (omega arith) (omega arith)))
 
   module _ {m : Made} (r : NewRows w n g m) where
     pub names-kept : namesAt text w' b n g (m .first) (m .segs) ≡ namesAt text w b n g (m .first) (m .segs)
-    unfolding namesAt
-    names-kept = rw (standing s front-kept .of-segments, news-kept (m .first) (m .segs) (r .half) (r .segs))
+    names-kept = names-stay s front-kept (m .first) (r .segs) (segments-stay (s .placed) k r)

@@ -1,20 +1,19 @@
 -- Nodes by their numbers: the places of IDs in a list without repetition. Assumes nothing.
-use Prim.Native.Nat.{ℕ, zero, suc, _+_, _*_, _≤_, _<_}
+use Prim.Native.Nat.{ℕ, zero, suc, _+_, _*_, _<_}
 use native.Mathlib.Omega.{arith}
-use native.Mathlib.Nat.{zero-add}
-use mathlib.Core.Bool.{Bool, true, false, not, _&&_, _||_}
-use mathlib.Core.List.{List, [], _∷_, _++_, map, map-append, append-assoc}
-use mathlib.Core.Path.{_≡_, refl, sym, ap, _∙_}
+use mathlib.Core.Bool.{true, false, not}
+use mathlib.Core.List.{List, [], _∷_, _++_, map-append, append-assoc}
+use mathlib.Core.Path.{_≡_, refl, _∙_}
 use lib.Dec.{eqb, eqb·zero-suc, eqb·suc-zero, eqb·suc-suc}
-use lib.ListN.{length, getD, length-append, length-map}
+use lib.ListN.{length, length-append, length-map}
 use borrow.Author.Tests.{not-true}
-use Rattle.gfa_spec.specs.Bytes.{same, any, nth}
-use Rattle.gfa_spec.proofs.Tests.{by-test, and-left, and-right, or-left, or-right, same-refl, same-sym, distinct}
+use Rattle.gfa_spec.specs.Bytes.{same, any, nth, distinct}
+use Rattle.gfa_spec.proofs.Tests.{and-left, and-right, or-left, or-right, same-refl, same-sym}
 use Rattle.normalize_spec.specs.Folding.{taken}
 use Rattle.work.proofs.Rows.{rows-length, rows-snoc}
-use Rattle.gfa.specs.declared.tables.Bases.{Bases}
-use Rattle.gfa.specs.declared.tables.Counts.{Counts}
-use Rattle.gfa.specs.Segments.{segmentAt, segmentsAt}
+use Rattle.tables.specs.declared.tables.Bases.{Bases}
+use Rattle.tables.specs.declared.tables.Counts.{Counts}
+use Rattle.tables.specs.Segments.{segmentsAt}
 use Rattle.normalize_tables.specs.declared.layout.Layout.{Layout}
 use Rattle.normalize_tables.specs.News.{newAt, newsAt, namesAt}
 

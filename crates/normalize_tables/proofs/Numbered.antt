@@ -8,25 +8,19 @@ use mathlib.Core.Path.{_≡_, refl, sym, _∙_}
 use lib.Dec.{eqb, eqb·zero-suc, eqb·suc-zero, eqb·suc-suc}
 use lib.ListN.{length}
 use borrow.Author.Tests.{eq-eqb, not-true}
-use Rattle.gfa_spec.specs.Bytes.{part, same, any, nth}
+use Rattle.gfa_spec.specs.Bytes.{part, same, any, nth, distinct}
 use Rattle.gfa_spec.specs.Reading.{Segment}
 use Rattle.gfa_spec.specs.Records.{segmentNumber}
 use Rattle.gfa_spec.specs.Runs.{bit}
-use Rattle.gfa_spec.proofs.Tests.{by-test, and-left, and-right, or-left, or-right, same-equal, same-sym, distinct}
+use Rattle.gfa_spec.proofs.Tests.{by-test, and-left, and-right, or-left, or-right, same-equal, same-sym}
 use Rattle.normalize_spec.proofs.Marks.{named}
 use Rattle.work.proofs.Rows.{rows-nth, rows-length}
-use Rattle.gfa.specs.declared.segments.Found.{Found}
-use Rattle.gfa.specs.declared.segments.Found.the-variants.{At, Nothing}
-use Rattle.gfa.specs.Segments.{segmentAt, segmentsAt, idsOf, FoundIs}
-use Rattle.gfa.proofs.Spelled.{found-at, found-nothing as nothing-found}
+use Rattle.tables.specs.declared.segments.Found.{Found}
+use Rattle.tables.specs.declared.segments.Found.the-variants.{At, Nothing}
+use Rattle.tables.specs.Segments.{segmentAt, segmentsAt, idsOf, FoundIs}
+use Rattle.tables.proofs.Numbers.{found-at, found-nothing as nothing-found}
 
 -- ---- marks
-
--- the word of a mark is 1 exactly if the test passes
-pub bit-set : (t : Bool) → eqb (bit t) 1 ≡ t
-unfolding bit
-bit-set true = refl
-bit-set false = refl
 
 -- ---- names and numbers
 

@@ -6,13 +6,13 @@ use mathlib.Core.Bool.{Bool}
 use mathlib.Core.Path.{_≡_, _∙_}
 use lib.ListN.{length}
 use Rattle.work.proofs.Rows.{Kept}
-use Rattle.gfa.specs.declared.tables.Bases.{Bases}
-use Rattle.gfa.specs.declared.tables.Counts.{Counts}
+use Rattle.tables.specs.declared.tables.Bases.{Bases}
+use Rattle.tables.specs.declared.tables.Counts.{Counts}
 use Rattle.gfa_spec.specs.Reading.{Segment}
-use Rattle.gfa.specs.Entries.{entriesAt}
-use Rattle.gfa.specs.Passes.{overRows}
-use Rattle.gfa.proofs.TableRows.{segment-kept}
-use Rattle.gfa.proofs.Standing.{Standing, tables-stand}
+use Rattle.tables.specs.Entries.{entriesAt}
+use Rattle.runs.specs.Counts.{overRows}
+use Rattle.tables.proofs.TableRows.{segment-kept}
+use Rattle.tables.proofs.Standing.{Standing, tables-stand}
 use Rattle.normalize_tables.specs.declared.layout.Layout.{Layout}
 use Rattle.normalize_tables.specs.Layout.{Source}
 use Rattle.normalize_tables.specs.Marks.{Marked}

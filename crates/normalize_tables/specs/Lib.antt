@@ -2,4 +2,5 @@
 pub mod Layout
 pub mod Marks
 pub mod News
+pub mod NewByNumber
 pub mod Rewritten

@@ -13,10 +13,31 @@ use Rattle.normalize_spec.specs.Folding.{New, NewStep, sanitized, taken, noneMa
 use Rattle.normalize_spec.specs.Links.{Key}
 use Rattle.normalize_spec.specs.NewNames.{newName}
 use Rattle.work.specs.Rows.{rowsAt}
-use Rattle.gfa.specs.declared.tables.Bases.{Bases}
-use Rattle.gfa.specs.declared.tables.Counts.{Counts}
-use Rattle.gfa.specs.Segments.{segmentAt, segmentsAt}
+use Rattle.tables.specs.declared.tables.Bases.{Bases}
+use Rattle.tables.specs.declared.tables.Counts.{Counts}
+use Rattle.tables.specs.ByNumber.{segmentNo, segmentsOf}
 use Rattle.normalize_tables.specs.declared.layout.Layout.{Layout}
+use Rattle.normalize_tables.specs.declared.rows.NewSegmentWords.{NewSegmentWords}
+use Rattle.normalize_tables.specs.declared.rows.NewStepWords.{NewStepWords}
+use Rattle.normalize_tables.specs.declared.rows.NewPathWords.{NewPathWords}
+
+-- ---- words
+
+-- the words of new segment j, of new step k, of new path p
+abbrev pub segmentWords : List ℕ → Layout → ℕ → NewSegmentWords
+segmentWords work g j =
+    record {
+      unit = record { 0 = getD work (g .segs + 4 * j) 0 };
+      count = getD work (g .segs + 4 * j + 1) 0;
+      suffix = getD work (g .segs + 4 * j + 2) 0;
+      before = getD work (g .segs + 4 * j + 3) 0;
+    }
+
+abbrev pub stepWords : List ℕ → Layout → ℕ → NewStepWords
+stepWords work g k = record { node = getD work (g .steps + 2 * k) 0; mark = getD work (g .steps + 2 * k + 1) 0 }
+
+abbrev pub pathWords : List ℕ → Layout → ℕ → NewPathWords
+pathWords work g p = record { first = getD work (g .paths + 2 * p) 0; end = getD work (g .paths + 2 * p) 0 + getD work (g .paths + 2 * p + 1) 0 }
 
 -- ---- new segments
 
@@ -33,13 +54,19 @@ firstNumber ss = firstOf (noneMade ss .next)
 unfoldable pub idOf : ℕ → ℕ → List ℕ → ℕ → ℕ → List ℕ
 idOf first j unit count suffix = cond (ltb (first + j) largest64) (decimal (first + j)) (newName unit count suffix)
 
--- new segment j: the four words of its row are the number of its unit, the run length, the suffix of its name, and the new segment before it on
--- that unit, counted from 1, or 0
+-- the new segment that words stand for
+abbrev pub newOf : List ℕ → List ℕ → Bases → ℕ → ℕ → NewSegmentWords → New
+newOf text work b first j r =
+    record {
+      unit = segmentNo text work b (r .unit .0) .id;
+      count = r .count;
+      id = idOf first j (segmentNo text work b (r .unit .0) .id) (r .count) (r .suffix);
+      sequence = repeat (r .count) (segmentNo text work b (r .unit .0) .sequence);
+    }
+
+-- new segment j: its unit's number, the run length, the suffix of its name, and the new segment before it on that unit, counted from 1, or 0
 unfoldable pub newAt : List ℕ → Bases → Layout → ℕ → List ℕ → ℕ → New
-newAt text b g first work j =
-    let s = segmentAt text work (b .segs + 6 * getD work (g .segs + 4 * j) 0) in
-    let count = getD work (g .segs + 4 * j + 1) 0 in
-    record { unit = s .id; count = count; id = idOf first j (s .id) count (getD work (g .segs + 4 * j + 2) 0); sequence = repeat count (s .sequence) }
+newAt text b g first work j = newOf text work b first j (segmentWords work g j)
 
 -- the first q new segments
 unfoldable pub newsAt : List ℕ → List ℕ → Bases → Layout → ℕ → ℕ → List New
@@ -55,20 +82,24 @@ pub record NewRow (n : Counts) (work : List ℕ) (at : ℕ) : Type 0 where
 
 -- the IDs of the segments of the text, and of the first q new ones: a node's number is its place in this list
 unfoldable pub namesAt : List ℕ → List ℕ → Bases → Counts → Layout → ℕ → ℕ → List (List ℕ)
-namesAt text work b n g first q = taken (segmentsAt text work (b .segs) (n .segs)) (newsAt text work b g first q)
+namesAt text work b n g first q = taken (segmentsOf text work b n) (newsAt text work b g first q)
 
 -- the first place of a string in a list, counted from 0
 unfoldable pub placeOf : List (List ℕ) → List ℕ → Option ℕ
 placeOf [] x = none
 placeOf (y ∷ ys) x = cond (same y x) (some 0) (Option·map suc (placeOf ys x))
 
+-- The first so many names are the same.
+pub record Agree (nodes : ℕ) (names names' : List (List ℕ)) : Type 0 where
+  pub same-name : (k : ℕ) → k < nodes → nth k names' [] ≡ nth k names []
+
 -- Each name that was made has the first suffix that was free: the names with smaller suffixes are taken, and the suffixes of one sanitized
 -- unit and one run length rise.
 pub record Suffixed (text work : List ℕ) (b : Bases) (n : Counts) (g : Layout) (first q : ℕ) : Type 0 where
-  pub taken : (j s : ℕ) → j < q → largest64 ≤ first + j → s < getD work (g .segs + 4 * j + 2) 0
+  pub taken : (j s : ℕ) → j < q → largest64 ≤ first + j → s < segmentWords work g j .suffix
       → any (same (newName (newAt text b g first work j .unit) (newAt text b g first work j .count) s)) (namesAt text work b n g first q) ≡ true
   pub rising : (i j : ℕ) → i < j → j < q → largest64 ≤ first + i → sanitized (newAt text b g first work i .unit) ≡ sanitized (newAt text b g first work j .unit)
-      → newAt text b g first work i .count ≡ newAt text b g first work j .count → getD work (g .segs + 4 * i + 2) 0 < getD work (g .segs + 4 * j + 2) 0
+      → newAt text b g first work i .count ≡ newAt text b g first work j .count → segmentWords work g i .suffix < segmentWords work g j .suffix
 
 -- ---- new steps and new paths
 

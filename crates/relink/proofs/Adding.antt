@@ -1,89 +1,109 @@
 -- Links that are added for the pairs of the new paths. Assumes nothing.
-use Prim.Native.Nat.{ℕ, _+_, _*_, _-_, _≤_, _<_}
+use Prim.Native.Nat.{ℕ, zero, suc, _+_, _*_, _-_, _≤_, _<_}
 use native.Mathlib.Numerals.{add-one}
 use native.Mathlib.Omega.{arith}
 use mathlib.Core.Bool.{Bool, true, false}
-use mathlib.Core.List.{List, [], _∷_, _++_, map, append-assoc}
+use mathlib.Core.List.{List, [], _∷_, _++_, map, map-append, append-assoc}
 use mathlib.Core.Logic.{inl, inr}
-use mathlib.Core.Path.{_≡_, refl, ap, _∙_}
+use mathlib.Core.Path.{_≡_, refl, sym, ap, _∙_}
 use lib.Dec.{eqb}
 use lib.ListN.{length, getD, set, length-set}
 use lib.Seq.{getD-set-same, getD-set-other}
 use Rattle.gfa_spec.specs.Bytes.{join, sum}
 use Rattle.gfa_spec.specs.Reading.{Segment}
 use Rattle.gfa_spec.specs.Runs.{bit}
+use Rattle.gfa_spec.proofs.Runs.{sum-append}
+use Rattle.gfa_spec.proofs.Counting.{bit-small, count-one, count-append}
 use Rattle.normalize_spec.specs.Folding.{NewStep, sameNewNode}
 use Rattle.normalize_spec.specs.Links.{Key, adjacent, missing}
-use Rattle.work.specs.Rows.{EachRow, span, Only}
-use Rattle.work.proofs.Rows.{Kept, only-none, only-then, only-kept, kept-within, rows-snoc, rows-length, rows-kept, each-kept, each-more, each-none}
-use Rattle.work.proofs.RowCuts.{rows-all, rows-cons, rows-none}
-use Rattle.gfa.specs.declared.tables.Bases.{Bases}
-use Rattle.gfa.specs.declared.tables.Counts.{Counts}
-use Rattle.gfa.specs.Links.{linksAt}
-use Rattle.gfa.proofs.TableRows.{link-kept, links-kept}
+use Rattle.work.specs.Rows.{rowsAt, span, Only}
+use Rattle.work.proofs.Rows.{Kept, only-none, only-then, only-kept, kept-within, rows-snoc, rows-kept, each-kept, each-more, each-none}
+use Rattle.work.proofs.Filling.{only-set}
+use Rattle.writers.proofs.Joining.{join-last}
+use Rattle.tables.specs.declared.tables.Bases.{Bases}
+use Rattle.tables.specs.declared.tables.Counts.{Counts}
+use Rattle.tables.specs.ByNumber.{linksTo}
+use Rattle.tables.proofs.ByNumber.{link-stands}
 use Rattle.normalize_tables.specs.declared.layout.Layout.{Layout}
 use Rattle.normalize_tables.specs.declared.layout.Made.{Made}
-use Rattle.normalize_tables.specs.News.{newStepAt, newStepsAt, newPathAt, newPathsAt, keyAt, keysAt, KeyRow}
-use Rattle.work.proofs.Filling.{only-set}
-use Rattle.normalize_tables.proofs.Lists.{count-one, count-append}
+use Rattle.normalize_tables.specs.declared.rows.NewPathWords.{NewPathWords}
+use Rattle.normalize_tables.specs.News.{pathWords, namesAt, newPathsAt, keyAt, keysAt}
+use Rattle.normalize_tables.specs.NewByNumber.{newStepNo, newStepsFrom, newPathNo, newPathsTo, NewPathIs}
 use Rattle.normalize_tables.proofs.Nodes.{same-place}
-use Rattle.normalize_tables.proofs.NewsStand.{new-step-kept, new-steps-kept, new-rows-kept}
+use Rattle.normalize_tables.proofs.Sources.{standing}
+use Rattle.normalize_tables.proofs.NewByNumber.{new-paths-more, new-steps-next, new-steps-length, new-path-is, new-steps-alike, paths-words, first-kept, end-kept}
+use Rattle.normalize_tables.proofs.NewsStand.{new-step-kept, front-kept}
+use Rattle.relink.specs.declared.lookup.Pair.{Pair}
 use Rattle.relink.specs.declared.pairs.Tally.{Tally}
-use Rattle.relink.specs.Relinking.{Linkable, Ended, pairAt, LinkFound, withLink, isLoop, Adds, Grows, PairAdded, PathAdded, lengthsAt, noneAdded, PathsAdded}
-use Rattle.relink.proofs.Endings.{bit-small, ends-kept}
-use Rattle.relink.proofs.Lookups.{pair-room, added-room, step-node}
+use Rattle.relink.specs.Relinking.{Relinkable, AddedRows, Ended, pairNo, PairIs, LinkFound, withLink, isLoop, Adds, Grows, PairAdded, PathAdded, noneAdded, PathsAdded}
+use Rattle.relink.proofs.Endings.{relinkable-stands, ends-kept}
+use Rattle.relink.proofs.Lookups.{pair-key}
 
 -- ---- what is kept
 
-module _ {w w' : List ℕ} {b : Bases} {n : Counts} {g : Layout} {m : Made} {added : ℕ} (s : Linkable w b n g m added) (o : Only (span (g .added) (g .added + n .steps) ∷ []) w w') where
+module _ {text w w' : List ℕ} {b : Bases} {n : Counts} {g : Layout} {m : Made} (s : Relinkable text w b n g m) (o : Only (span (g .added) (g .added + n .steps) ∷ []) w w') where
   -- the words before the added links, and those behind them
-  pub front-kept : Kept 0 (g .added) w w'
-  front-kept = only-kept 0 (g .added) o (inl (omega arith), tt)
+  pub before-kept : Kept 0 (g .added) w w'
+  before-kept = only-kept 0 (g .added) o (inl (omega arith), tt)
 
-  back-kept : Kept (g .ends) (g .ends + 3 * n .links) w w'
-  back-kept = let p = s .placed in only-kept (g .ends) (g .ends + 3 * n .links) o (inr (omega arith), tt)
+  behind-kept : Kept (g .ends) (g .ends + 3 * n .links) w w'
+  behind-kept = let p = s .source .placed in only-kept (g .ends) (g .ends + 3 * n .links) o (inr (omega arith), tt)
 
-  pub links-same : (text : List ℕ) → linksAt text w' (b .links) (n .links) ≡ linksAt text w (b .links) (n .links)
-  links-same text = let l = s .laid in let p = s .placed in links-kept front-kept text (b .links) (n .links) (omega arith) (omega arith)
+  links-same : linksTo text w' b (n .links) ≡ linksTo text w b (n .links)
+  links-same = standing (s .source) (front-kept (s .source) before-kept) .of-links
 
-  pub pair-same : (names : List (List ℕ)) (step : ℕ) → step + 1 < m .steps → pairAt names (g .steps) w' step ≡ pairAt names (g .steps) w step
-  pair-same names step h =
-      let r = pair-room s step h in
-      rw (new-step-kept front-kept names (g .steps + 2 * step) (omega arith) (omega arith), new-step-kept front-kept names (g .steps + 2 * (step + 1)) (omega arith) (omega arith))
+  -- the new steps, and the new paths
+  step-same : (names : List (List ℕ)) (k : ℕ) → k < m .steps → newStepNo names w' g k ≡ newStepNo names w g k
+  step-same names k h = let p = s .source .placed in new-step-kept before-kept names (g .steps + 2 * k) (omega arith) (omega (arith, s .rows .few))
 
-  pub ended-stands : {text : List ℕ} {names : List (List ℕ)} {fs : List Segment} → Ended text names fs w b n g m → Ended text names fs w' b n g m
-  ended-stands {text} e =
-      let d = s .laid in
-      let p = s .placed in
+  pair-same : (names : List (List ℕ)) (step : ℕ) → step + 1 < m .steps → pairNo names w' g step ≡ pairNo names w g step
+  pair-same names step h = rw (step-same names step (omega arith), step-same names (step + 1) h)
+
+  path-same : (names : List (List ℕ)) (p : ℕ) → p < n .paths → newPathNo names w' g p ≡ newPathNo names w g p
+  path-same names p h =
+      let d = s .source .placed in
+      let row = s .rows .paths .row p h .steps in
+      let k = paths-words g (n .paths) (kept-within (g .paths) (g .paths + 2 * n .paths) before-kept (omega arith) (omega arith)) in
+      rw (new-path-is names w' g p, end-kept g k p h, first-kept g k p h, new-path-is names w g p)
+      (new-steps-alike names names w w' g (pathWords w g p .first) (pathWords w g p .end) (λ i l r. step-same names i (omega arith)))
+
+  pub ended-stands : {names : List (List ℕ)} {fs : List Segment} → Ended text names fs w b n g m → Ended text names fs w' b n g m
+  ended-stands e =
       record {
         apart = e .apart;
         all = e .all;
         ends = λ i h.
-            ends-kept (kept-within (g .ends + 3 * i) (g .ends + 3 * i + 3) back-kept (omega arith) (omega arith))
-            (link-kept front-kept text (b .links + 8 * i) (omega arith) (omega arith)) (e .ends i h);
+            ends-kept (kept-within (g .ends + 3 * i) (g .ends + 3 * i + 3) behind-kept (omega arith) (omega arith))
+            (link-stands (s .source .readable) (front-kept (s .source) before-kept) i h) (e .ends i h);
       }
-
-  pub linkable-stands : {t : ℕ} → length w' ≡ length w → EachRow (KeyRow (m .steps)) 1 w' (g .added) t → t ≤ n .steps → Linkable w' b n g m t
-  linkable-stands e k h =
-      record { laid = rw e (s .laid); few = s .few; placed = rw e (s .placed); rows = new-rows-kept (s .placed) front-kept (s .rows); keys = k; high = h }
 
 -- ---- one behind the other
 
+-- nothing is added
+grows-none : {w : List ℕ} {n : Counts} {g : Layout} {m : Made} {s : Tally} (most : ℕ) → AddedRows w n g m (s .added) → Grows w w n g m s s most
+grows-none most r = record { low = omega arith; high = omega arith; loops = omega arith; rows = r; long = refl; only = only-none }
+
 module _ {w v u : List ℕ} {n : Counts} {g : Layout} {m : Made} {s t r : Tally} {k l : ℕ} where
-  pub grows-then : (most : ℕ) → k + l ≤ most → Grows w v n g m s t k → Grows v u n g m t r l → Grows w u n g m s r most
+  grows-then : (most : ℕ) → r .added ≤ s .added + most → Grows w v n g m s t k → Grows v u n g m t r l → Grows w u n g m s r most
   grows-then most h a c =
       record {
         low = omega (arith, a .low, c .low);
-        high = omega (arith, a .high, c .high);
+        high = h;
         loops = omega (arith, a .loops, c .loops);
-        keys = c .keys;
+        rows = c .rows;
         long = c .long ∙ a .long;
         only = only-then (span (g .added) (g .added + n .steps) ∷ []) (a .only) (c .only) (λ i o. (o, o));
       }
 
-pub adds-then : {text : List ℕ} {names : List (List ℕ)} {fs : List Segment} {w v u : List ℕ} {b : Bases} {n : Counts} {g : Layout} {s t r : Tally} {ks ls : List Key} (qs rest : List Key)
-    → ls ≡ qs ++ rest → Adds text names fs w v b n g s t ks ls → Adds text names fs v u b n g t r qs [] → Adds text names fs w u b n g s r ks rest
-adds-then qs rest e a c = record { all = λ more. a .all more ∙ rw (e, append-assoc) (c .all (rest ++ more)); loops = λ h. c .loops (a .loops h) }
+module _ {text : List ℕ} {names : List (List ℕ)} {fs : List Segment} {w v u : List ℕ} {b : Bases} {n : Counts} {g : Layout} {s t r : Tally} where
+  -- the first of the pairs that are left are added
+  adds-then : {ks ls : List Key} (qs rest : List Key) → ls ≡ qs ++ rest → Adds text names fs w v b n g s t ks ls → Adds text names fs v u b n g t r qs []
+      → Adds text names fs w u b n g s r ks rest
+  adds-then qs rest e a c = record { all = λ more. a .all more ∙ rw (e, append-assoc) (c .all (rest ++ more)); loops = λ h. c .loops (a .loops h) }
+
+  -- more pairs are added
+  adds-more : {ks : List Key} (qs : List Key) → Adds text names fs w v b n g s t ks [] → Adds text names fs v u b n g t r qs [] → Adds text names fs w u b n g s r (ks ++ qs) []
+  adds-more qs a c = record { all = λ more. rw append-assoc (a .all (qs ++ more) ∙ c .all more); loops = λ h. c .loops (a .loops h) }
 
 -- ---- a pair
 
@@ -97,75 +117,79 @@ unfolding bit
 with-loops s true = refl
 with-loops s false = omega arith
 
-module _ {w : List ℕ} {b : Bases} {n : Counts} {g : Layout} {m : Made} (s : Tally) (step : ℕ) (k : Linkable w b n g m (s .added)) (h : step + 1 < m .steps) where
+module _ {text w : List ℕ} {b : Bases} {n : Counts} {g : Layout} {m : Made} {s : Tally} {step : ℕ} {p : Pair}
+    (k : Relinkable text w b n g m × AddedRows w n g m (s .added)) (h : (step + 1 < m .steps) × (s .added < n .steps) × (s .loops ≤ s .added)) (q : PairIs w n g m step p) where
   -- a link has these parts
-  pub pair-there : {r : Bool} → LinkFound w b n g m (s .added) step r → r ≡ true → PairAdded w w b n g m s step s
+  pub pair-there : {r : Bool} → LinkFound text w b n g m (s .added) p r → r ≡ true → PairAdded text w w b n g m s step s
   unfolding missing
   pair-there f e =
       record {
-        adds = λ text names fs d. record { all = λ more. rw (← f .answer text names fs d, e); loops = λ z. z };
-        grows = record { low = omega arith; high = omega arith; loops = omega arith; keys = k .keys; long = refl; only = only-none };
+        ready = k .0;
+        adds = λ names fs d. record { all = λ more. rw (pair-key q names, ← f .answer names fs d, e); loops = λ z. z };
+        grows = grows-none 1 (k .1);
       }
 
-  module _ (room : s .added < n .steps) where
-    -- one word of the table changes
-    put-only : Only (span (g .added) (g .added + n .steps) ∷ []) w (set w (g .added + s .added) step)
-    put-only = only-set w (g .added + s .added) step (omega arith) (omega arith)
+  -- there is room for one more word
+  put-room : g .added + s .added < length w
+  put-room = let d = k .0 .source .placed in omega (arith, d .ends, d .room)
 
-    put-here : getD (set w (g .added + s .added) step) (g .added + s .added) 0 ≡ step
-    put-here = getD-set-same w (g .added + s .added) step 0 (omega (arith, added-room k))
+  put-only : Only (span (g .added) (g .added + n .steps) ∷ []) w (set w (g .added + s .added) step)
+  put-only = only-set w (g .added + s .added) step (omega arith) (omega arith)
 
-    put-before : (i : ℕ) → i < s .added → getD (set w (g .added + s .added) step) (g .added + 1 * i) 0 ≡ getD w (g .added + 1 * i) 0
-    put-before i l = getD-set-other w (g .added + s .added) (g .added + 1 * i) step 0 (λ e. omega arith)
+  put-here : getD (set w (g .added + s .added) step) (g .added + s .added) 0 ≡ step
+  put-here = getD-set-same w (g .added + s .added) step 0 put-room
 
-    put-keys : EachRow (KeyRow (m .steps)) 1 (set w (g .added + s .added) step) (g .added) (s .added + 1)
-    put-keys =
-        let z : g .added + 1 * s .added ≡ g .added + s .added = omega arith in
-        rw add-one (each-more (each-kept (k .keys) (λ i l q. record { step = rw (put-before i l) (q .step) })) (record { step = rw (z, put-here) h }))
+  put-before : (i : ℕ) → i < s .added → getD (set w (g .added + s .added) step) (g .added + 1 * i) 0 ≡ getD w (g .added + 1 * i) 0
+  put-before i l = getD-set-other w (g .added + s .added) (g .added + 1 * i) step 0 (λ e. omega arith)
 
-    -- the added links are as they were
-    keys-before : (names : List (List ℕ)) → keysAt names (g .steps) (set w (g .added + s .added) step) (g .added) (s .added) ≡ keysAt names (g .steps) w (g .added) (s .added)
-    unfolding keysAt keyAt
-    keys-before names =
-        rows-kept (keyAt names (g .steps)) 1 (g .added) (s .added) (λ i l. rw (put-before i l) (pair-same k put-only names (getD w (g .added + 1 * i) 0) (k .keys .row i l .step)))
+  put-rows : AddedRows (set w (g .added + s .added) step) n g m (s .added + 1)
+  put-rows =
+      let z : g .added + 1 * s .added ≡ g .added + s .added = omega arith in
+      let old = each-kept {w' = set w (g .added + s .added) step} (k .1 .keys) (λ i l q. record { step = rw (put-before i l) (q .step) }) in
+      record { keys = rw add-one (each-more old (record { step = rw (z, put-here) (h .0) })); high = omega arith }
 
-    -- the pair stands behind them
-    keys-more : (names : List (List ℕ)) → keysAt names (g .steps) (set w (g .added + s .added) step) (g .added) (s .added + 1)
-        ≡ keysAt names (g .steps) w (g .added) (s .added) ++ (pairAt names (g .steps) w step ∷ [])
-    unfolding keysAt keyAt
-    keys-more names =
-        let z : g .added + 1 * s .added ≡ g .added + s .added = omega arith in
-        rw (add-one, rows-snoc, keys-before names, z, put-here, pair-same k put-only names step h)
+  -- the added links are as they were
+  keys-before : (names : List (List ℕ)) → keysAt names (g .steps) (set w (g .added + s .added) step) (g .added) (s .added) ≡ keysAt names (g .steps) w (g .added) (s .added)
+  unfolding keysAt keyAt
+  keys-before names =
+      rows-kept (keyAt names (g .steps)) 1 (g .added) (s .added)
+      (λ i l. rw (put-before i l) (pair-same (k .0) put-only names (getD w (g .added + 1 * i) 0) (k .1 .keys .row i l .step)))
 
-    pair-loop : {names : List (List ℕ)} {x y : ℕ} → x ≡ getD w (g .steps + 2 * step) 0 → y ≡ getD w (g .steps + 2 * step + 2) 0 → {text : List ℕ} {fs : List Segment} → Ended text names fs w b n g m
-        → eqb x y ≡ isLoop (pairAt names (g .steps) w step)
-    unfolding sameNewNode newStepAt
-    pair-loop {names} ex ey e =
-        let z : g .steps + 2 * (step + 1) ≡ g .steps + 2 * step + 2 = omega arith in
-        let next : getD w (g .steps + 2 * step + 2) 0 < length names = rw (← z, e .all) (step-node k (step + 1) h) in
-        rw (ex, ey, z, same-place names (getD w (g .steps + 2 * step) 0) (getD w (g .steps + 2 * step + 2) 0) (e .apart) (omega (arith, step-node k step (omega arith), e .all)) next)
+  -- the pair stands behind them
+  keys-more : (names : List (List ℕ)) → keysAt names (g .steps) (set w (g .added + s .added) step) (g .added) (s .added + 1)
+      ≡ keysAt names (g .steps) w (g .added) (s .added) ++ (pairNo names w g step ∷ [])
+  unfolding keysAt keyAt
+  keys-more names =
+      let z : g .added + 1 * s .added ≡ g .added + s .added = omega arith in
+      rw (add-one, rows-snoc, keys-before names, z, put-here, pair-same (k .0) put-only names step (h .0))
 
-    -- none has them: the pair is added
-    pub pair-added : {f : Bool} {x y : ℕ} {r : Tally} → LinkFound w b n g m (s .added) step f → f ≡ false → x ≡ getD w (g .steps + 2 * step) 0 → y ≡ getD w (g .steps + 2 * step + 2) 0
-        → r ≡ withLink s (eqb x y) → PairAdded w (set w (g .added + s .added) step) b n g m s step r
-    unfolding missing
-    pair-added {x = x} {y = y} f e ex ey er =
-        let ra = ap (λ t. t .added) er ∙ with-added s (eqb x y) in
-        let rl = ap (λ t. t .loops) er ∙ with-loops s (eqb x y) in
-        record {
-          adds = λ text names fs d. record {
-            all = λ more. rw (← f .answer text names fs d, e, ra, keys-more names, links-same k put-only text, append-assoc, append-assoc);
-            loops = λ z. rl ∙ rw (ra, keys-more names, count-append, count-one, z, pair-loop ex ey d);
-          };
-          grows = record {
-            low = omega arith;
-            high = omega arith;
-            loops = omega (arith, bit-small (eqb x y));
-            keys = rw ra put-keys;
-            long = length-set w (g .added + s .added) step;
-            only = put-only;
-          };
-        }
+  pair-loop : {names : List (List ℕ)} {fs : List Segment} → Ended text names fs w b n g m → eqb (p .first .node) (p .second .node) ≡ isLoop (pairNo names w g step)
+  unfolding sameNewNode
+  pair-loop {names} e = rw (q .first .step names, q .second .step names, same-place names (p .first .node) (p .second .node) (e .apart) (omega (arith, e .all)) (omega (arith, e .all)))
+
+  -- none has them: the pair is added
+  pub pair-added : {f : Bool} {w' : List ℕ} {r : Tally} → LinkFound text w b n g m (s .added) p f → f ≡ false
+      → (w' ≡ set w (g .added + s .added) step) × (r ≡ withLink s (eqb (p .first .node) (p .second .node))) → PairAdded text w w' b n g m s step r
+  unfolding missing
+  pair-added f e put =
+      let same = eqb (p .first .node) (p .second .node) in
+      let ra = ap (λ t. t .added) (put .1) ∙ with-added s same in
+      let rl = ap (λ t. t .loops) (put .1) ∙ with-loops s same in
+      rw (put .0) (record {
+        ready = relinkable-stands (before-kept (k .0) put-only) (length-set w (g .added + s .added) step) (k .0);
+        adds = λ names fs d. record {
+          all = λ more. (let known = f .answer names fs d in rw (ra, keys-more names, links-same (k .0) put-only, pair-key q names, ← known, e, append-assoc, append-assoc));
+          loops = λ z. rl ∙ rw (ra, keys-more names, count-append, count-one, z, pair-loop d);
+        };
+        grows = record {
+          low = omega arith;
+          high = omega arith;
+          loops = omega (arith, bit-small same);
+          rows = rw ra put-rows;
+          long = length-set w (g .added + s .added) step;
+          only = put-only;
+        };
+      })
 
 -- ---- the pairs of a path
 
@@ -176,86 +200,72 @@ adjacent-none [] h = refl
 adjacent-none (x ∷ []) h = refl
 adjacent-none (x ∷ (y ∷ ys)) h = absurd (omega arith)
 
--- the first pair, and the others
-adjacent-cons : (names : List (List ℕ)) (w : List ℕ) (base size j : ℕ) → j + 1 < size
-    → adjacent (newStepsAt names w (base + 2 * j) (size - j))
-    ≡ record { from = newStepAt names w (base + 2 * j); to = newStepAt names w (base + 2 * (j + 1)) } ∷ adjacent (newStepsAt names w (base + 2 * (j + 1)) (size - (j + 1)))
-unfolding newStepsAt
-adjacent-cons names w base size j h =
-    let first = rows-cons (newStepAt names) 2 w base size j (omega arith) in
-    let second = rows-cons (newStepAt names) 2 w base size (j + 1) h in
-    rw (first, second) (unfold adjacent in refl)
+module _ (names : List (List ℕ)) (w : List ℕ) (g : Layout) (k end : ℕ) where
+  -- the first pair, and the others
+  adjacent-cons : k + 1 < end → adjacent (newStepsFrom names w g k end) ≡ pairNo names w g k ∷ adjacent (newStepsFrom names w g (k + 1) end)
+  adjacent-cons h = rw (new-steps-next names w g k end (omega arith), new-steps-next names w g (k + 1) end h) (unfold adjacent in refl)
 
--- The state at pair j: those before it have links.
-pub record Pairing (before work : List ℕ) (b : Bases) (n : Counts) (g : Layout) (m : Made) (s : Tally) (first size : ℕ) (now : Tally) (j : ℕ) : Type 0 where
-  pub linkable : Linkable before b n g m (s .added)
-  pub inside : first + size ≤ m .steps
-  pub room : s .added + size ≤ n .steps
+-- The state at new step k: the pairs before it have links.
+pub record Pairing (text before work : List ℕ) (b : Bases) (n : Counts) (g : Layout) (m : Made) (s : Tally) (first end : ℕ) (now : Tally) (k : ℕ) : Type 0 where
+  pub relinkable : Relinkable text before b n g m
+  pub ready : Relinkable text work b n g m
+  pub low : first ≤ k
+  pub high : k ≤ end
+  pub inside : end ≤ m .steps
+  pub room : s .added + (end - first) ≤ n .steps
   pub loops : s .loops ≤ s .added
-  pub high : j ≤ size
-  pub adds : (text : List ℕ) (names : List (List ℕ)) (fs : List Segment) → Ended text names fs before b n g m
-      → Adds text names fs before work b n g s now (adjacent (newStepsAt names before (g .steps + 2 * first) size)) (adjacent (newStepsAt names before (g .steps + 2 * first + 2 * j) (size - j)))
-  pub grows : Grows before work n g m s now j
+  pub adds : (names : List (List ℕ)) (fs : List Segment) → Ended text names fs before b n g m
+      → Adds text names fs before work b n g s now (adjacent (newStepsFrom names before g first end)) (adjacent (newStepsFrom names before g k end))
+  pub grows : Grows before work n g m s now (k - first)
 
-module _ {before : List ℕ} {b : Bases} {n : Counts} {g : Layout} {m : Made} {s : Tally} {first size : ℕ} where
-  pub pairing-start : Linkable before b n g m (s .added) × (first + size ≤ m .steps) × (s .added + size ≤ n .steps) × (s .loops ≤ s .added) → Pairing before before b n g m s first size s 0
-  unfolding newStepsAt
-  pairing-start h =
+module _ {text before : List ℕ} {b : Bases} {n : Counts} {g : Layout} {m : Made} {s : Tally} {first end : ℕ} where
+  pub pairing-start : Relinkable text before b n g m × AddedRows before n g m (s .added) → (first ≤ end) × (end ≤ m .steps) × (s .added + (end - first) ≤ n .steps) × (s .loops ≤ s .added)
+      → Pairing text before before b n g m s first end s first
+  pairing-start r h =
       record {
-        linkable = h .0;
+        relinkable = r .0;
+        ready = r .0;
+        low = omega arith;
+        high = h .0;
         inside = h .1;
         room = h .2;
         loops = h .3;
-        high = omega arith;
-        adds = λ text names fs e. record { all = λ more. rw (← rows-all (newStepAt names) 2 before (g .steps + 2 * first) size); loops = λ z. z };
-        grows = record { low = omega arith; high = omega arith; loops = omega arith; keys = h .0 .keys; long = refl; only = only-none };
+        adds = λ names fs e. record { all = λ more. refl; loops = λ z. z };
+        grows = grows-none (first - first) (r .1);
       }
 
-  module _ {work : List ℕ} {now : Tally} {j : ℕ} (p : Pairing before work b n g m s first size now j) where
-    pub pairing-linkable : Linkable work b n g m (now .added)
-    pairing-linkable = linkable-stands (p .linkable) (p .grows .only) (p .grows .long) (p .grows .keys) (omega (arith, p .grows .high, p .high, p .room))
-
-    pub pairing-ready : j + 1 < size → Linkable work b n g m (now .added) × (first + j + 1 < m .steps) × (now .added < n .steps) × (now .loops ≤ now .added)
-    pairing-ready h = (
-      pairing-linkable,
-      omega (arith, p .inside),
-      omega (arith, p .grows .high, p .room),
-      omega (arith, p .grows .loops, p .loops, p .grows .low),
-    )
-
-    pub pairing-more : {work' : List ℕ} {r : Tally} → j + 1 < size → PairAdded work work' b n g m now (first + j) r → Pairing before work' b n g m s first size r (j + 1)
+  module _ {work : List ℕ} {now : Tally} {k : ℕ} (p : Pairing text before work b n g m s first end now k) where
+    pub pairing-more : {work' : List ℕ} {r : Tally} → k + 1 < end → PairAdded text work work' b n g m now k r → Pairing text before work' b n g m s first end r (k + 1)
     pairing-more h q =
         record {
-          linkable = p .linkable;
+          relinkable = p .relinkable;
+          ready = q .ready;
+          low = omega (arith, p .low);
+          high = omega arith;
           inside = p .inside;
           room = p .room;
           loops = p .loops;
-          high = omega arith;
-          adds = λ text names fs e.
-              adds-then (pairAt names (g .steps) work (first + j) ∷ []) (adjacent (newStepsAt names before (g .steps + 2 * first + 2 * (j + 1)) (size - (j + 1)))) (here names)
-              (p .adds text names fs e) (q .adds text names fs (ended-stands (p .linkable) (p .grows .only) e));
-          grows = grows-then (j + 1) (omega arith) (p .grows) (q .grows);
+          adds = λ names fs e.
+              adds-then (pairNo names work g k ∷ []) (adjacent (newStepsFrom names before g (k + 1) end)) (here names)
+              (p .adds names fs e) (q .adds names fs (ended-stands (p .relinkable) (p .grows .only) e));
+          grows = grows-then (k + 1 - first) (omega (arith, p .grows .high, q .grows .high, p .low)) (p .grows) (q .grows);
         }
       where
-        here : (names : List (List ℕ)) → adjacent (newStepsAt names before (g .steps + 2 * first + 2 * j) (size - j))
-            ≡ (pairAt names (g .steps) work (first + j) ∷ []) ++ adjacent (newStepsAt names before (g .steps + 2 * first + 2 * (j + 1)) (size - (j + 1)))
-        here names =
-            let x : g .steps + 2 * first + 2 * j ≡ g .steps + 2 * (first + j) = omega arith in
-            let y : g .steps + 2 * first + 2 * (j + 1) ≡ g .steps + 2 * (first + j + 1) = omega arith in
-            adjacent-cons names before (g .steps + 2 * first) size j h
-            ∙ rw (pair-same (p .linkable) (p .grows .only) names (first + j) (omega (arith, p .inside)), x, y)
+        here : (names : List (List ℕ)) → adjacent (newStepsFrom names before g k end) ≡ (pairNo names work g k ∷ []) ++ adjacent (newStepsFrom names before g (k + 1) end)
+        here names = adjacent-cons names before g k end h ∙ rw (pair-same (p .relinkable) (p .grows .only) names k (omega (arith, p .inside)))
 
-    pub pairing-end : size ≤ j + 1 → PathAdded before work b n g m s first size now
+    pub pairing-end : end ≤ k + 1 → PathAdded text before work b n g m s first end now
     pairing-end h =
         record {
-          adds = λ text names fs e.
-              (let none-left = adjacent-none (newStepsAt names before (g .steps + 2 * first + 2 * j) (size - j)) (unfold newStepsAt in rw rows-length (omega arith)) in
-              rw none-left at (p .adds text names fs e));
+          ready = p .ready;
+          adds = λ names fs e.
+              (let none-left = adjacent-none (newStepsFrom names before g k end) (rw new-steps-length (omega arith)) in
+              rw none-left at (p .adds names fs e));
           grows = record {
             low = p .grows .low;
             high = omega (arith, p .grows .high, p .high);
             loops = p .grows .loops;
-            keys = p .grows .keys;
+            rows = p .grows .rows;
             long = p .grows .long;
             only = p .grows .only;
           };
@@ -263,89 +273,82 @@ module _ {before : List ℕ} {b : Bases} {n : Counts} {g : Layout} {m : Made} {s
 
 -- ---- the paths
 
--- The state at path p: the pairs of those before it have links.
-pub record Passing (before work : List ℕ) (b : Bases) (n : Counts) (g : Layout) (m : Made) (s : Tally) (p : ℕ) : Type 0 where
-  pub linkable : Linkable before b n g m 0
-  pub total : sum (lengthsAt before (g .paths) (n .paths)) ≤ m .steps
-  pub high : p ≤ n .paths
-  pub few : s .added + sum (lengthsAt before (g .paths + 2 * p) (n .paths - p)) ≤ sum (lengthsAt before (g .paths) (n .paths))
-  pub adds : (text : List ℕ) (names : List (List ℕ)) (fs : List Segment) → Ended text names fs before b n g m
-      → Adds text names fs before work b n g noneAdded s (join (map adjacent (newPathsAt names (g .steps) before (g .paths) (n .paths))))
-      (join (map adjacent (newPathsAt names (g .steps) before (g .paths + 2 * p) (n .paths - p))))
-  pub grows : Grows before work n g m noneAdded s (sum (lengthsAt before (g .paths) (n .paths)))
+module _ (names : List (List ℕ)) (w : List ℕ) (g : Layout) where
+  -- the steps of the first p new paths
+  abbrev pub stepsTo : ℕ → ℕ
+  stepsTo p = sum (map length (newPathsTo names w g p))
 
-module _ {before : List ℕ} {b : Bases} {n : Counts} {g : Layout} {m : Made} where
-  pub passing-start : Linkable before b n g m 0 × (sum (lengthsAt before (g .paths) (n .paths)) ≤ m .steps) → Passing before before b n g m noneAdded 0
-  unfolding newPathsAt lengthsAt
+  -- one path more
+  steps-more : (p : ℕ) → stepsTo (p + 1) ≡ stepsTo p + length (newPathNo names w g p)
+  unfolding sum
+  steps-more p = rw (new-paths-more names w g p, sum-append length (newPathsTo names w g p)) (omega arith)
+
+  -- any number more
+  steps-rise : (p k : ℕ) → stepsTo p ≤ stepsTo (p + k)
+  steps-rise p zero = let z : p + 0 ≡ p = omega arith in rw z (omega arith)
+  steps-rise p (suc k) = let z : p + suc k ≡ p + k + 1 = omega arith in rw (z, steps-more (p + k)) (omega (arith, steps-rise p k))
+
+  -- the pairs of one path more
+  pairs-more : (p : ℕ) → join (map adjacent (newPathsTo names w g (p + 1))) ≡ join (map adjacent (newPathsTo names w g p)) ++ adjacent (newPathNo names w g p)
+  pairs-more p = rw (new-paths-more names w g p, map-append, join-last)
+
+-- the IDs of the nodes
+abbrev pub nodes : List ℕ → List ℕ → Bases → Counts → Layout → Made → List (List ℕ)
+nodes text w b n g m = namesAt text w b n g (m .first) (m .segs)
+
+-- The state at path p: the pairs of those before it have links.
+pub record Passing (text before work : List ℕ) (b : Bases) (n : Counts) (g : Layout) (m : Made) (s : Tally) (p : ℕ) : Type 0 where
+  pub relinkable : Relinkable text before b n g m
+  pub ready : Relinkable text work b n g m
+  pub high : p ≤ n .paths
+  pub few : s .added ≤ stepsTo (nodes text before b n g m) before g p
+  pub adds : (names : List (List ℕ)) (fs : List Segment) → Ended text names fs before b n g m
+      → Adds text names fs before work b n g noneAdded s (join (map adjacent (newPathsTo names before g p))) []
+  pub grows : Grows before work n g m noneAdded s (m .steps)
+
+module _ {text before : List ℕ} {b : Bases} {n : Counts} {g : Layout} {m : Made} where
+  pub passing-start : Relinkable text before b n g m → Passing text before before b n g m noneAdded 0
+  unfolding newPathsAt rowsAt join
   passing-start h =
       record {
-        linkable = h .0;
-        total = h .1;
+        relinkable = h;
+        ready = h;
         high = omega arith;
-        few = rw (← rows-all (λ w at. getD w (at + 1) 0) 2 before (g .paths) (n .paths)) (omega arith);
-        adds = λ text names fs e. record { all = λ more. rw (← rows-all (newPathAt names (g .steps)) 2 before (g .paths) (n .paths)); loops = λ z. z };
-        grows = record { low = omega arith; high = omega arith; loops = omega arith; keys = each-none; long = refl; only = only-none };
+        few = omega arith;
+        adds = λ names fs e. record { all = λ more. refl; loops = λ z. z };
+        grows = grows-none (m .steps) (record { keys = each-none; high = omega arith });
       }
 
-  module _ {work : List ℕ} {s : Tally} {p : ℕ} (q : Passing before work b n g m s p) where
-    pub passing-linkable : Linkable work b n g m (s .added)
-    passing-linkable = linkable-stands (q .linkable) (q .grows .only) (q .grows .long) (q .grows .keys) (omega (arith, q .few, q .total, q .linkable .rows .few))
+  module _ {work : List ℕ} {s : Tally} {p : ℕ} (q : Passing text before work b n g m s p) where
+    module _ {r : NewPathWords} (h : p < n .paths) (e : NewPathIs work n g m p r) where
+      -- the path is as it was
+      here : (names : List (List ℕ)) → newPathNo names before g p ≡ newStepsFrom names work g (r .first) (r .end)
+      here names = sym (path-same (q .relinkable) (q .grows .only) names p h) ∙ e .path names
 
-    module _ (h : p < n .paths) {first size : ℕ} (ef : first ≡ getD work (g .paths + 2 * p) 0) (es : size ≡ getD work (g .paths + 2 * p + 1) 0) where
-      -- the path's row is as it was
-      first-same : first ≡ getD before (g .paths + 2 * p) 0
-      first-same = let d = q .linkable .placed in ef ∙ front-kept (q .linkable) (q .grows .only) .word (g .paths + 2 * p) (omega arith) (omega arith)
+      -- so are its steps, with those of the paths before it and behind it
+      passing-steps : stepsTo (nodes text before b n g m) before g p + (r .end - r .first) ≤ m .steps
+      passing-steps =
+          let names = nodes text before b n g m in
+          let size : length (newPathNo names before g p) ≡ r .end - r .first = rw (here names) (new-steps-length names work g (r .first) (r .end)) in
+          let all : p + 1 + (n .paths - (p + 1)) ≡ n .paths = omega arith in
+          omega (arith, steps-more names before g p, size, rw all at (steps-rise names before g (p + 1) (n .paths - (p + 1))), q .relinkable .steps)
 
-      size-same : size ≡ getD before (g .paths + 2 * p + 1) 0
-      size-same = let d = q .linkable .placed in es ∙ front-kept (q .linkable) (q .grows .only) .word (g .paths + 2 * p + 1) (omega arith) (omega arith)
+      pub passing-room : s .added + (r .end - r .first) ≤ n .steps
+      passing-room = omega (arith, q .few, passing-steps, q .relinkable .rows .few)
 
-      sum-cons : sum (lengthsAt before (g .paths + 2 * p) (n .paths - p)) ≡ size + sum (lengthsAt before (g .paths + 2 * (p + 1)) (n .paths - (p + 1)))
-      unfolding lengthsAt
-      sum-cons = rw (rows-cons (λ w at. getD w (at + 1) 0) 2 before (g .paths) (n .paths) p h, size-same) (unfold sum in refl)
-
-      pub passing-ready : Linkable work b n g m (s .added) × (first + size ≤ m .steps) × (s .added + size ≤ n .steps) × (s .loops ≤ s .added)
-      passing-ready = (
-        passing-linkable,
-        omega (arith, passing-linkable .rows .paths .row p h .steps),
-        omega (arith, q .few, sum-cons, q .total, q .linkable .rows .few),
-        omega (arith, q .grows .loops),
-      )
-
-      -- the path is the next one
-      here : (names : List (List ℕ)) → join (map adjacent (newPathsAt names (g .steps) before (g .paths + 2 * p) (n .paths - p)))
-          ≡ adjacent (newStepsAt names work (g .steps + 2 * first) size) ++ join (map adjacent (newPathsAt names (g .steps) before (g .paths + 2 * (p + 1)) (n .paths - (p + 1))))
-      unfolding newPathsAt
-      here names =
-          let d = q .linkable .placed in
-          let r = passing-ready .1 in
-          let steps = new-steps-kept (front-kept (q .linkable) (q .grows .only)) names (g .steps + 2 * first) size (omega arith) (omega (arith, q .linkable .rows .few)) in
-          rw (rows-cons (newPathAt names (g .steps)) 2 before (g .paths) (n .paths) p h, steps, first-same, size-same) (unfold join newPathAt in refl)
-
-      pub passing-more : {work' : List ℕ} {t : Tally} → PathAdded work work' b n g m s first size t → Passing before work' b n g m t (p + 1)
+      pub passing-more : {work' : List ℕ} {t : Tally} → PathAdded text work work' b n g m s (r .first) (r .end) t → Passing text before work' b n g m t (p + 1)
       passing-more a =
+          let names = nodes text before b n g m in
+          let size : length (newPathNo names before g p) ≡ r .end - r .first = rw (here names) (new-steps-length names work g (r .first) (r .end)) in
           record {
-            linkable = q .linkable;
-            total = q .total;
+            relinkable = q .relinkable;
+            ready = a .ready;
             high = omega arith;
-            few = omega (arith, q .few, sum-cons, a .grows .high);
-            adds = λ text names fs e.
-                adds-then (adjacent (newStepsAt names work (g .steps + 2 * first) size)) (join (map adjacent (newPathsAt names (g .steps) before (g .paths + 2 * (p + 1)) (n .paths - (p + 1))))) (here names)
-                (q .adds text names fs e) (a .adds text names fs (ended-stands (q .linkable) (q .grows .only) e));
-            grows = (let z = grows-then (sum (lengthsAt before (g .paths) (n .paths)) + size) (omega arith) (q .grows) (a .grows) in
-                record {
-                  low = z .low;
-                  high = omega (arith, q .few, sum-cons, a .grows .high);
-                  loops = z .loops;
-                  keys = z .keys;
-                  long = z .long;
-                  only = z .only;
-                });
+            few = omega (arith, q .few, steps-more names before g p, size, a .grows .high);
+            adds = λ names fs d. rw (pairs-more names before g p, here names)
+                (adds-more (adjacent (newStepsFrom names work g (r .first) (r .end))) (q .adds names fs d) (a .adds names fs (ended-stands (q .relinkable) (q .grows .only) d)));
+            grows = grows-then (m .steps) (omega (arith, q .few, passing-steps, a .grows .high)) (q .grows) (a .grows);
           }
 
-    pub passing-end : n .paths ≤ p → PathsAdded before work b n g m s
-    unfolding newPathsAt join
-    passing-end h =
-        record {
-          adds = λ text names fs e. rw (rows-none (newPathAt names (g .steps)) 2 before (g .paths) (n .paths) p h) at (q .adds text names fs e);
-          grows = q .grows;
-        }
+    pub passing-end : n .paths ≤ p → PathsAdded text before work b n g m s
+    passing-end h = let z : p ≡ n .paths = omega (arith, q .high) in record { ready = q .ready; adds = λ names fs e. rw z at (q .adds names fs e); grows = q .grows }

@@ -3,134 +3,115 @@ use Prim.Native.Nat.{ℕ, _+_, _*_, _-_, _≤_, _<_}
 use native.Mathlib.Numerals.{add-one}
 use native.Mathlib.Omega.{arith}
 use mathlib.Core.Bool.{Bool, true, false, not, _&&_, _||_}
-use mathlib.Core.List.{List, _∷_, map}
+use mathlib.Core.List.{List, _∷_, _++_, map}
 use mathlib.Core.Path.{_≡_, refl, sym, _∙_}
 use lib.Dec.{eqb}
 use lib.ListN.{length, getD}
-use borrow.Author.Tests.{eq-eqb, ne-eqb}
-use Rattle.gfa_spec.specs.Bytes.{any, keep}
+use borrow.Author.Tests.{eq-eqb, ne-eqb, not-true, not-false}
+use Rattle.gfa_spec.specs.Bytes.{any, keep, distinct}
 use Rattle.gfa_spec.specs.Reading.{Segment, Link}
 use Rattle.gfa_spec.specs.Runs.{bit}
-use Rattle.gfa_spec.proofs.Tests.{by-test, any-append, distinct}
+use Rattle.gfa_spec.proofs.Tests.{by-test, any-append}
 use Rattle.normalize_spec.specs.Folding.{sameNewNode, sameNewStep}
 use Rattle.normalize_spec.specs.Links.{Key, isRemoved, sameKey, keyOf}
-use Rattle.work.proofs.Rows.{each-none}
 use Rattle.work.proofs.RowCuts.{rows-all, rows-cons, rows-none}
-use Rattle.gfa.specs.declared.tables.Bases.{Bases}
-use Rattle.gfa.specs.declared.tables.Counts.{Counts}
-use Rattle.gfa.specs.Links.{linkAt, linksAt}
+use Rattle.tables.specs.declared.tables.Bases.{Bases}
+use Rattle.tables.specs.declared.tables.Counts.{Counts}
+use Rattle.tables.specs.declared.rows.LinkWords.{LinkWords}
+use Rattle.tables.specs.ByNumber.{linkNo, LinkIs, linksFrom}
+use Rattle.tables.proofs.ByNumber.{links-all, links-next, links-none}
 use Rattle.normalize_tables.specs.declared.layout.Layout.{Layout}
 use Rattle.normalize_tables.specs.declared.layout.Made.{Made}
-use Rattle.normalize_tables.specs.News.{placeOf, newStepAt, keyAt, keysAt}
+use Rattle.normalize_tables.specs.declared.rows.NewStepWords.{NewStepWords}
+use Rattle.normalize_tables.specs.News.{placeOf, keyAt, keysAt}
+use Rattle.normalize_tables.specs.NewByNumber.{stepIs}
 use Rattle.normalize_tables.proofs.Nodes.{same-place}
-use Rattle.relink.specs.Relinking.{wordOf, Linkable, Ended, pairAt, keptKeys, stepIs, endIs, linkIs, KeptIs, AddedIs, LinkFound}
+use Rattle.relink.specs.declared.ends.Ends.{Ends}
+use Rattle.relink.specs.declared.lookup.Pair.{Pair}
+use Rattle.relink.specs.Relinking.{Relinkable, wordOf, endsNo, AddedRows, Ended, pairNo, stepIn, keyIn, PairIs, PairThere, keptKeys, pairIs, nodesAre, marksAre, LinkMatch, KeptIs, AddedIs, LinkFound}
 use Rattle.relink.proofs.Places.{place-says}
 
 -- ---- words and steps
 
-module _ (names : List (List ℕ)) (w : List ℕ) (d : distinct names ≡ true) where
+module _ (names : List (List ℕ)) (d : distinct names ≡ true) where
   -- new steps are equal exactly if their words are
-  pub step-says : (a c : ℕ) → getD w a 0 < length names → getD w c 0 < length names → stepIs w a c ≡ sameNewStep (newStepAt names w a) (newStepAt names w c)
-  unfolding sameNewStep sameNewNode newStepAt
-  step-says a c l h = rw (same-place names (getD w a 0) (getD w c 0) d l h)
+  step-says : (s t : NewStepWords) → s .node < length names → t .node < length names → stepIs s t ≡ sameNewStep (stepIn names s) (stepIn names t)
+  unfolding sameNewStep sameNewNode
+  step-says s t l h = rw (same-place names (s .node) (t .node) d l h)
 
   -- a new step is the end of a link exactly if its words are
-  pub end-says : (a end mark : ℕ) (name : List ℕ) → getD w a 0 < length names → getD w end 0 ≡ wordOf (placeOf names name)
-      → endIs w a end mark ≡ sameNewStep (newStepAt names w a) (record { name = name; orientation = getD w mark 0 })
-  unfolding sameNewStep sameNewNode newStepAt
-  end-says a end mark name l e = rw (place-says names name (getD w a 0) d l, e, add-one)
+  end-says : (s : NewStepWords) (node mark : ℕ) (name : List ℕ) → s .node < length names → node ≡ wordOf (placeOf names name)
+      → (eqb (s .node + 1) node && eqb (s .mark) mark) ≡ sameNewStep (stepIn names s) (record { name = name; orientation = mark })
+  unfolding sameNewStep sameNewNode
+  end-says s node mark name l e = rw (place-says names name (s .node) d l, e, add-one)
 
--- two tests of numbers, one behind the other: the first fails, or the second decides
-pub test-first : {x y x' y' : ℕ} (t : Bool) → x ≡ x' → y ≡ y' → (x ≡ y → ⊥) → _≡_ {A = Bool} false (eqb x' y' && t)
-test-first {x} {y} t e f h = rw (← e, ← f, ne-eqb x y h)
+  -- pairs are equal exactly if their words are
+  pair-says : (p q : Pair) → (p .first .node < length names) × (p .second .node < length names) → (q .first .node < length names) × (q .second .node < length names)
+      → pairIs p q ≡ sameKey (keyIn names p) (keyIn names q)
+  unfolding sameKey
+  pair-says p q l h = rw (step-says (p .first) (q .first) (l .0) (h .0), step-says (p .second) (q .second) (l .1) (h .1))
 
-pub test-second : {x y x' y' u v u' v' : ℕ} → x ≡ x' → y ≡ y' → x ≡ y → u ≡ u' → v ≡ v' → eqb u v ≡ (eqb x' y' && eqb u' v')
-test-second {x} {y} e f h p q = rw (← e, ← f, eq-eqb x y h, p, q)
+-- two tests, one behind the other: the first fails, or the second decides
+pub test-first : {x y : ℕ} (t : Bool) → (x ≡ y → ⊥) → _≡_ {A = Bool} false (eqb x y && t)
+test-first {x} {y} t h = rw (ne-eqb x y h)
+
+pub test-second : {x y : ℕ} {t : Bool} → x ≡ y → t ≡ (eqb x y && t)
+test-second {x} {y} h = rw (eq-eqb x y h)
+
+pub pair-first : {r s : Bool} (t : Bool) → r ≡ s → not r ≡ true → _≡_ {A = Bool} false (s && t)
+pair-first {r} t e h = rw (← e, not-true r h)
+
+pub pair-second : {r s t u : Bool} → r ≡ s → not r ≡ false → u ≡ t → u ≡ (s && t)
+pair-second {r} e h f = rw (← e, not-false r h) f
+
+-- the four parts of a pair
+pub pair-key : {work : List ℕ} {n : Counts} {g : Layout} {m : Made} {step : ℕ} {p : Pair} → PairIs work n g m step p → (names : List (List ℕ)) → pairNo names work g step ≡ keyIn names p
+pair-key q names = rw (q .first .step names, q .second .step names)
+
+-- ---- a link
 
 bit-clear : (t : Bool) → eqb (bit t) 0 ≡ not t
 unfolding bit
 bit-clear true = refl
 bit-clear false = refl
 
--- the tests of a link, one behind the other
-module _ {x x' : ℕ} (e : x ≡ x') where
-  pub link-removed : (t : Bool) → (x ≡ 0 → ⊥) → _≡_ {A = Bool} false (eqb x' 0 && t)
-  link-removed t h = rw (← e, ne-eqb x 0 h)
+-- four tests in another order
+regroup : (x y z t : Bool) → ((x && z) && (y && t)) ≡ ((x && y) && (z && t))
+regroup true true z t = refl
+regroup true false true t = refl
+regroup true false false t = refl
+regroup false y z t = refl
 
-  pub link-first : {r s : Bool} (t : Bool) → x ≡ 0 → r ≡ s → r ≡ false → _≡_ {A = Bool} false (eqb x' 0 && (s && t))
-  link-first t h f k = rw (← e, eq-eqb x 0 h, ← f, k)
+module _ {text work : List ℕ} {b : Bases} {n : Counts} {g : Layout} {m : Made} (p : Pair) {i : ℕ}
+    (s : Relinkable text work b n g m × PairThere n m p × (i < n .links)) {e : Ends} (f : e ≡ endsNo work g i) where
+  -- the link
+  abbrev here : Link
+  here = linkNo text work b i
 
-  pub link-second : {r s t u : Bool} → x ≡ 0 → r ≡ s → r ≡ true → u ≡ t → u ≡ (eqb x' 0 && (s && t))
-  link-second h f k g = rw (← e, eq-eqb x 0 h, ← f, k) g
+  -- its mark says whether it is removed
+  match-gone : (names : List (List ℕ)) (fs : List Segment) → Ended text names fs work b n g m → eqb (e .gone) 0 ≡ not (isRemoved fs here)
+  match-gone names fs d = rw (f, d .ends i (s .2) .gone, bit-clear)
 
--- ---- room
+  pub match-removed : (e .gone ≡ 0 → ⊥) → LinkMatch text work b n g m p i false
+  match-removed h = record { answer = λ names fs d. rw (← match-gone names fs d, ne-eqb (e .gone) 0 h) }
 
-module _ {w : List ℕ} {b : Bases} {n : Counts} {g : Layout} {m : Made} {added : ℕ} (s : Linkable w b n g m added) where
-  -- with no added link
-  pub none-added : Linkable w b n g m 0
-  none-added = record { laid = s .laid; few = s .few; placed = s .placed; rows = s .rows; keys = each-none; high = omega arith }
+  module _ (h : e .gone ≡ 0) where
+    -- nodes and orientations say whether it has the parts
+    match-all : (names : List (List ℕ)) (fs : List Segment) → Ended text names fs work b n g m
+        → (nodesAre p e && marksAre p (here .fromOrientation) (here .toOrientation)) ≡ (not (isRemoved fs here) && sameKey (keyIn names p) (keyOf here))
+    unfolding sameKey keyOf
+    match-all names fs d =
+        let row = d .ends i (s .2) in
+        let from = end-says names (d .apart) (p .first) (e .from) (here .fromOrientation) (here .from) (omega (arith, s .1, d .all)) (rw f (row .from)) in
+        let to = end-says names (d .apart) (p .second) (e .to) (here .toOrientation) (here .to) (omega (arith, s .1, d .all)) (rw f (row .to)) in
+        rw (← match-gone names fs d, eq-eqb (e .gone) 0 h, ← from, ← to) (regroup (eqb (p .first .node + 1) (e .from)) (eqb (p .first .mark) (here .fromOrientation)) _ _)
 
-  -- a new step and the one behind it have words
-  pub pair-room : (step : ℕ) → step + 1 < m .steps → g .steps + 2 * step + 4 ≤ g .added
-  pair-room step h = let p = s .placed in omega (arith, s .rows .few, p .added)
+    module _ {r : Bool} (q : r ≡ nodesAre p e) where
+      pub match-nodes : not r ≡ true → LinkMatch text work b n g m p i false
+      match-nodes z = record { answer = λ names fs d. pair-first _ q z ∙ match-all names fs d }
 
-  pub added-room : g .added + n .steps ≤ length w
-  added-room = let p = s .placed in omega (arith, p .ends, p .room)
-
-  -- the rows of link i are within the work area
-  pub link-room : (i : ℕ) → i < n .links → (b .links + 8 * i + 8 ≤ length w) × (g .ends + 3 * i + 3 ≤ length w)
-  link-room i h = let l = s .laid in let p = s .placed in (omega (arith, l .links, l .paths, l .steps), omega (arith, p .room))
-
-  -- their nodes are nodes
-  pub step-node : (step : ℕ) → step < m .steps → getD w (g .steps + 2 * step) 0 < n .segs + m .segs
-  step-node step h = s .rows .steps .row step h .node
-
-  next-node : (step : ℕ) → step + 1 < m .steps → getD w (g .steps + 2 * step + 2) 0 < n .segs + m .segs
-  next-node step h = let z : g .steps + 2 * step + 2 ≡ g .steps + 2 * (step + 1) = omega arith in rw z (step-node (step + 1) h)
-
-  -- and not many
-  pub step-small : (step : ℕ) → step + 1 < m .steps → (getD w (g .steps + 2 * step) 0 ≤ 4294967296) × (getD w (g .steps + 2 * step + 2) 0 ≤ 4294967296)
-  step-small step h =
-      let f = s .few in
-      let r = s .rows in
-      (omega (arith, step-node step (omega arith), r .half, f .1, f .4), omega (arith, next-node step h, r .half, f .1, f .4))
-
-  -- the step of an added link
-  pub added-step : (i : ℕ) → i < added → getD w (g .added + i) 0 + 1 < m .steps
-  added-step i h = let z : g .added + 1 * i ≡ g .added + i = omega arith in rw z at (s .keys .row i h .step)
-
-  module _ (names : List (List ℕ)) (d : distinct names ≡ true) (l : length names ≡ n .segs + m .segs) (step : ℕ) (h : step + 1 < m .steps) where
-    -- link i is kept and has the parts of the pair
-    pub link-says : {text : List ℕ} {fs : List Segment} → Ended text names fs w b n g m → (i : ℕ) → i < n .links
-        → linkIs w b g step i ≡ (not (isRemoved fs (linkAt text w (b .links + 8 * i))) && sameKey (pairAt names (g .steps) w step) (keyOf (linkAt text w (b .links + 8 * i))))
-    unfolding sameKey keyOf linkAt
-    link-says {text} e i k =
-        let r = e .ends i k in
-        let z : g .steps + 2 * (step + 1) ≡ g .steps + 2 * step + 2 = omega arith in
-        rw (
-          z,
-          r .gone,
-          bit-clear,
-          end-says names w d (g .steps + 2 * step) (g .ends + 3 * i) (b .links + 8 * i + 4) (linkAt text w (b .links + 8 * i) .from) (omega (arith, step-node step (omega arith))) (r .from),
-          end-says names w d (g .steps + 2 * step + 2) (g .ends + 3 * i + 1) (b .links + 8 * i + 7) (linkAt text w (b .links + 8 * i) .to) (omega (arith, next-node step h)) (r .to),
-        )
-
-    -- an added link has the parts of the pair
-    pub pair-says : (i : ℕ) → i < added → (stepIs w (g .steps + 2 * step) (g .steps + 2 * getD w (g .added + i) 0) && stepIs w (g .steps + 2 * step + 2) (g .steps + 2 * getD w (g .added + i) 0 + 2))
-        ≡ sameKey (pairAt names (g .steps) w step) (keyAt names (g .steps) w (g .added + 1 * i))
-    unfolding sameKey keyAt
-    pair-says i k =
-        let t = getD w (g .added + i) 0 in
-        let u = added-step i k in
-        let y : g .added + 1 * i ≡ g .added + i = omega arith in
-        let z : (x : ℕ) → g .steps + 2 * (x + 1) ≡ g .steps + 2 * x + 2 = λ x. omega arith in
-        rw (
-          y,
-          z step,
-          z t,
-          step-says names w d (g .steps + 2 * step) (g .steps + 2 * t) (omega (arith, step-node step (omega arith))) (omega (arith, step-node t (omega arith))),
-          step-says names w d (g .steps + 2 * step + 2) (g .steps + 2 * t + 2) (omega (arith, next-node step h)) (omega (arith, next-node t u)),
-        )
+      pub match-marks : {u : Bool} {l : LinkWords} → not r ≡ false → LinkIs text work b i l → u ≡ marksAre p (l .leaves) (l .enters) → LinkMatch text work b n g m p i u
+      match-marks z k t = record { answer = λ names fs d. pair-second q z (t ∙ rw (k .link)) ∙ match-all names fs d }
 
 -- ---- kept links
 
@@ -140,90 +121,94 @@ unfolding keep any
 kept-cons t q l ls = by-test (t l) (λ e. rw e) (λ e. rw e)
 
 -- The state at link i: no kept link before it has the parts of the pair.
-pub record Seeking (work : List ℕ) (b : Bases) (n : Counts) (g : Layout) (m : Made) (step i : ℕ) : Type 0 where
-  pub linkable : Linkable work b n g m 0
-  pub near : step + 1 < m .steps
+pub record Seeking (text work : List ℕ) (b : Bases) (n : Counts) (g : Layout) (m : Made) (p : Pair) (i : ℕ) : Type 0 where
+  pub relinkable : Relinkable text work b n g m
+  pub there : PairThere n m p
   pub high : i ≤ n .links
-  pub left : (text : List ℕ) (names : List (List ℕ)) (fs : List Segment) → Ended text names fs work b n g m
-      → any (sameKey (pairAt names (g .steps) work step)) (keptKeys text fs work b (n .links))
-      ≡ any (sameKey (pairAt names (g .steps) work step)) (map keyOf (keep (λ l. not (isRemoved fs l)) (linksAt text work (b .links + 8 * i) (n .links - i))))
+  pub left : (names : List (List ℕ)) (fs : List Segment) → Ended text names fs work b n g m
+      → any (sameKey (keyIn names p)) (keptKeys text fs work b (n .links)) ≡ any (sameKey (keyIn names p)) (map keyOf (keep (λ l. not (isRemoved fs l)) (linksFrom text work b n i)))
 
-module _ {work : List ℕ} {b : Bases} {n : Counts} {g : Layout} {m : Made} {step : ℕ} where
-  pub seeking-start : Linkable work b n g m 0 × (step + 1 < m .steps) → Seeking work b n g m step 0
-  unfolding linksAt
-  seeking-start h = record { linkable = h .0; near = h .1; high = omega arith; left = λ text names fs e. rw (← rows-all (linkAt text) 8 work (b .links) (n .links)) }
+module _ {text work : List ℕ} {b : Bases} {n : Counts} {g : Layout} {m : Made} {p : Pair} where
+  pub seeking-start : Relinkable text work b n g m × PairThere n m p → Seeking text work b n g m p 0
+  seeking-start h = record { relinkable = h .0; there = h .1; high = omega arith; left = λ names fs e. rw (← links-all text work b n) }
 
-  module _ {i : ℕ} (s : Seeking work b n g m step i) where
-    module _ {r : Bool} (h : i < n .links) (q : r ≡ linkIs work b g step i) where
-      first-link : (text : List ℕ) (names : List (List ℕ)) (fs : List Segment) → Ended text names fs work b n g m
-          → any (sameKey (pairAt names (g .steps) work step)) (keptKeys text fs work b (n .links))
-          ≡ (r || any (sameKey (pairAt names (g .steps) work step)) (map keyOf (keep (λ l. not (isRemoved fs l)) (linksAt text work (b .links + 8 * (i + 1)) (n .links - (i + 1))))))
-      unfolding linksAt
-      first-link text names fs e =
-          s .left text names fs e
-          ∙ rw (rows-cons (linkAt text) 8 work (b .links) (n .links) i h, kept-cons, ← link-says (s .linkable) names (e .apart) (e .all) step (s .near) e i h, ← q)
+  module _ {i : ℕ} (s : Seeking text work b n g m p i) where
+    module _ {r : Bool} (h : i < n .links) (q : LinkMatch text work b n g m p i r) where
+      first-link : (names : List (List ℕ)) (fs : List Segment) → Ended text names fs work b n g m
+          → any (sameKey (keyIn names p)) (keptKeys text fs work b (n .links))
+          ≡ (r || any (sameKey (keyIn names p)) (map keyOf (keep (λ l. not (isRemoved fs l)) (linksFrom text work b n (i + 1)))))
+      first-link names fs e = s .left names fs e ∙ rw (links-next text work b n i h, kept-cons, ← q .answer names fs e)
 
-      pub seeking-more : r ≡ false → Seeking work b n g m step (i + 1)
-      seeking-more f = record { linkable = s .linkable; near = s .near; high = omega arith; left = λ text names fs e. first-link text names fs e ∙ rw f }
+      pub seeking-more : r ≡ false → Seeking text work b n g m p (i + 1)
+      seeking-more f = record { relinkable = s .relinkable; there = s .there; high = omega arith; left = λ names fs e. first-link names fs e ∙ rw f }
 
-      pub seeking-hit : r ≡ true → KeptIs work b n g m step true
-      seeking-hit f = record { answer = λ text names fs e. sym (first-link text names fs e ∙ rw f) }
+      pub seeking-hit : r ≡ true → KeptIs text work b n g m p true
+      seeking-hit f = record { answer = λ names fs e. sym (first-link names fs e ∙ rw f) }
 
-    pub seeking-end : n .links ≤ i → KeptIs work b n g m step false
-    unfolding linksAt keep any
-    seeking-end h = record { answer = λ text names fs e. sym (s .left text names fs e ∙ rw (rows-none (linkAt text) 8 work (b .links) (n .links) i h)) }
+    pub seeking-end : n .links ≤ i → KeptIs text work b n g m p false
+    unfolding keep any
+    seeking-end h = record { answer = λ names fs e. sym (s .left names fs e ∙ rw (links-none text work b n i h)) }
 
 -- ---- added links
 
--- the words of added link i are those of the pair
-abbrev pub addedIs : List ℕ → Layout → ℕ → ℕ → Bool
-addedIs work g step i =
-    stepIs work (g .steps + 2 * step) (g .steps + 2 * getD work (g .added + i) 0) && stepIs work (g .steps + 2 * step + 2) (g .steps + 2 * getD work (g .added + i) 0 + 2)
-
 -- The state at added link i: none before it has the parts of the pair.
-pub record Comparing (work : List ℕ) (g : Layout) (added step i : ℕ) : Type 0 where
+pub record Comparing (text work : List ℕ) (b : Bases) (n : Counts) (g : Layout) (m : Made) (added : ℕ) (p : Pair) (i : ℕ) : Type 0 where
+  pub relinkable : Relinkable text work b n g m
+  pub rows : AddedRows work n g m added
+  pub there : PairThere n m p
   pub high : i ≤ added
-  pub left : (names : List (List ℕ)) → ((j : ℕ) → j < added → addedIs work g step j ≡ sameKey (pairAt names (g .steps) work step) (keyAt names (g .steps) work (g .added + 1 * j)))
-      → any (sameKey (pairAt names (g .steps) work step)) (keysAt names (g .steps) work (g .added) added)
-      ≡ any (sameKey (pairAt names (g .steps) work step)) (keysAt names (g .steps) work (g .added + 1 * i) (added - i))
+  pub left : (names : List (List ℕ)) → distinct names ≡ true → length names ≡ n .segs + m .segs
+      → any (sameKey (keyIn names p)) (keysAt names (g .steps) work (g .added) added)
+      ≡ any (sameKey (keyIn names p)) (keysAt names (g .steps) work (g .added + 1 * i) (added - i))
 
-module _ {work : List ℕ} {g : Layout} {added step : ℕ} where
-  pub comparing-start : Comparing work g added step 0
+-- the step of an added link
+pub added-step : {work : List ℕ} {n : Counts} {g : Layout} {m : Made} {added i t : ℕ} → AddedRows work n g m added → i < added → t ≡ getD work (g .added + i) 0 → t + 1 < m .steps
+added-step {g = g} {i = i} s h e = let z : g .added + 1 * i ≡ g .added + i = omega arith in rw e (rw z at (s .keys .row i h .step))
+
+module _ {text work : List ℕ} {b : Bases} {n : Counts} {g : Layout} {m : Made} {added : ℕ} {p : Pair} where
+  pub comparing-start : Relinkable text work b n g m × AddedRows work n g m added × PairThere n m p → Comparing text work b n g m added p 0
   unfolding keysAt
-  comparing-start = record { high = omega arith; left = λ names e. rw (← rows-all (keyAt names (g .steps)) 1 work (g .added) added) }
+  comparing-start h =
+      record { relinkable = h .0; rows = h .1; there = h .2; high = omega arith; left = λ names d l. rw (← rows-all (keyAt names (g .steps)) 1 work (g .added) added) }
 
-  module _ {i : ℕ} (s : Comparing work g added step i) where
-    module _ {at t : ℕ} {r : Bool} (h : i < added) (ea : at ≡ g .steps + 2 * step) (et : t ≡ getD work (g .added + i) 0)
-        (q : r ≡ (stepIs work at (g .steps + 2 * t) && stepIs work (at + 2) (g .steps + 2 * t + 2))) where
-      here : r ≡ addedIs work g step i
-      here = q ∙ rw (ea, et)
+  module _ {i : ℕ} (s : Comparing text work b n g m added p i) where
+    module _ {t : ℕ} {other : Pair} {r : Bool} (h : i < added) (e : t ≡ getD work (g .added + i) 0) (o : PairIs work n g m t other) (q : r ≡ pairIs p other) where
+      first-added : (names : List (List ℕ)) → distinct names ≡ true → length names ≡ n .segs + m .segs
+          → any (sameKey (keyIn names p)) (keysAt names (g .steps) work (g .added) added)
+          ≡ (r || any (sameKey (keyIn names p)) (keysAt names (g .steps) work (g .added + 1 * (i + 1)) (added - (i + 1))))
+      unfolding keysAt keyAt any
+      first-added names d l =
+          let z : g .added + 1 * i ≡ g .added + i = omega arith in
+          let says = pair-says names d p other (omega arith, omega arith) (omega arith, omega arith) in
+          s .left names d l ∙ rw (rows-cons (keyAt names (g .steps)) 1 work (g .added) added i h, z, ← e, pair-key o names, ← says, ← q)
 
-      first-added : (names : List (List ℕ)) → ((j : ℕ) → j < added → addedIs work g step j ≡ sameKey (pairAt names (g .steps) work step) (keyAt names (g .steps) work (g .added + 1 * j)))
-          → any (sameKey (pairAt names (g .steps) work step)) (keysAt names (g .steps) work (g .added) added)
-          ≡ (r || any (sameKey (pairAt names (g .steps) work step)) (keysAt names (g .steps) work (g .added + 1 * (i + 1)) (added - (i + 1))))
-      unfolding keysAt any
-      first-added names e = s .left names e ∙ rw (rows-cons (keyAt names (g .steps)) 1 work (g .added) added i h, ← e i h, ← here)
+      pub comparing-more : r ≡ false → Comparing text work b n g m added p (i + 1)
+      comparing-more f =
+          record { relinkable = s .relinkable; rows = s .rows; there = s .there; high = omega arith; left = λ names d l. first-added names d l ∙ rw f }
 
-      pub comparing-more : r ≡ false → Comparing work g added step (i + 1)
-      comparing-more f = record { high = omega arith; left = λ names e. first-added names e ∙ rw f }
+      pub comparing-hit : r ≡ true → AddedIs work n g m added p true
+      comparing-hit f = record { answer = λ names d l. sym (first-added names d l ∙ rw f) }
 
-      pub comparing-hit : {b : Bases} {n : Counts} {m : Made} → Linkable work b n g m added × (step + 1 < m .steps) → r ≡ true → AddedIs work n g m added step true
-      comparing-hit k f = record { answer = λ names d l. sym (first-added names (pair-says (k .0) names d l step (k .1)) ∙ rw f) }
-
-    pub comparing-end : {b : Bases} {n : Counts} {m : Made} → Linkable work b n g m added × (step + 1 < m .steps) → added ≤ i → AddedIs work n g m added step false
+    pub comparing-end : added ≤ i → AddedIs work n g m added p false
     unfolding keysAt any
-    comparing-end k h = record { answer = λ names d l. sym (s .left names (pair-says (k .0) names d l step (k .1)) ∙ rw (rows-none (keyAt names (g .steps)) 1 work (g .added) added i h)) }
+    comparing-end h = record { answer = λ names d l. sym (s .left names d l ∙ rw (rows-none (keyAt names (g .steps)) 1 work (g .added) added i h)) }
 
 -- ---- both
 
-module _ {work : List ℕ} {b : Bases} {n : Counts} {g : Layout} {m : Made} {added step : ℕ} {k : Bool} (q : KeptIs work b n g m step k) where
-  pub found-kept : k ≡ true → LinkFound work b n g m added step true
-  found-kept e =
-      record { answer = λ text names fs d. rw (any-append (sameKey (pairAt names (g .steps) work step)) (keptKeys text fs work b (n .links)), ← q .answer text names fs d, e) }
+module _ {text work : List ℕ} {b : Bases} {n : Counts} {g : Layout} {m : Made} {added : ℕ} (p : Pair) {k : Bool}
+    (s : Relinkable text work b n g m × AddedRows work n g m added × PairThere n m p) (q : KeptIs text work b n g m p k) where
+  -- the answer, with what there is room for
+  found : (r : Bool) → ((names : List (List ℕ)) (fs : List Segment) → Ended text names fs work b n g m
+      → r ≡ any (sameKey (keyIn names p)) (keptKeys text fs work b (n .links) ++ keysAt names (g .steps) work (g .added) added)) → LinkFound text work b n g m added p r
+  found r e =
+      let d = s .0 .source .placed in
+      record { answer = e; room = omega (arith, d .ends, d .room); few = s .0 .source .readable .few .4; made = omega (arith, s .0 .rows .few) }
 
-  pub found-added : {r : Bool} → k ≡ false → AddedIs work n g m added step r → LinkFound work b n g m added step r
-  found-added e a =
-      record {
-        answer = λ text names fs d.
-            rw (any-append (sameKey (pairAt names (g .steps) work step)) (keptKeys text fs work b (n .links)), ← q .answer text names fs d, e) (a .answer names (d .apart) (d .all));
-      }
+  pub found-kept : k ≡ true → LinkFound text work b n g m added p true
+  found-kept e = found true (λ names fs d. rw (any-append (sameKey (keyIn names p)) (keptKeys text fs work b (n .links)), ← q .answer names fs d, e))
+
+  pub found-added : {r : Bool} → k ≡ false → AddedIs work n g m added p r → LinkFound text work b n g m added p r
+  found-added {r} e a =
+      found r
+      (λ names fs d.
+      rw (any-append (sameKey (keyIn names p)) (keptKeys text fs work b (n .links)), ← q .answer names fs d, e) (a .answer names (d .apart) (d .all)))

@@ -8,11 +8,12 @@ use mathlib.Core.Option.{Option, none, some, Option·map}
 use mathlib.Core.Path.{_≡_, refl, sym, _∙_}
 use lib.Dec.{eqb, eqb·zero-suc, eqb·suc-zero, eqb·suc-suc}
 use lib.ListN.{length}
-use Rattle.gfa_spec.specs.Bytes.{same, any, nth}
+use Rattle.gfa_spec.specs.Bytes.{same, any, nth, distinct}
 use Rattle.gfa_spec.specs.Reading.{Segment}
 use Rattle.gfa_spec.specs.Records.{segmentNumber}
-use Rattle.gfa_spec.proofs.Tests.{by-test, and-right, same-equal, distinct}
-use Rattle.gfa.specs.Segments.{idsOf}
+use Rattle.gfa_spec.proofs.Tests.{by-test, and-right, same-equal}
+use Rattle.gfa_spec.proofs.Counting.{map-none, map-some}
+use Rattle.tables.specs.Segments.{idsOf}
 use Rattle.normalize_tables.specs.News.{placeOf}
 use Rattle.normalize_tables.proofs.Nodes.{same-place}
 use Rattle.relink.specs.Relinking.{wordOf}
@@ -55,14 +56,6 @@ word-above : (o : Option ℕ) (k : ℕ) → k < wordOf o → suc k < wordOf (Opt
 unfolding wordOf
 word-above none k h = absurd (omega arith)
 word-above (some j) k h = omega arith
-
-map-none : (o : Option ℕ) → Option·map suc o ≡ none → o ≡ none
-map-none none e = refl
-map-none (some k) e = let z : _≡_ {A = ℕ} 0 1 = cc in absurd (omega arith)
-
-map-some : (o : Option ℕ) (k : ℕ) → Option·map suc o ≡ some k → (j : ℕ) × (o ≡ some j) × (k ≡ suc j)
-map-some none k e = let z : _≡_ {A = ℕ} 0 1 = cc in absurd (omega arith)
-map-some (some j) k e = (j, refl, cc)
 
 -- the word of a name that a segment has is that of the segment's number
 word-known : (ss : List Segment) (more : List (List ℕ)) (name : List ℕ) (k : ℕ) → segmentNumber ss name ≡ some k → (wordOf (placeOf (idsOf ss ++ more) name) ≡ suc k) × (k < length ss)

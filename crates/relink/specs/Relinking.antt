@@ -1,31 +1,34 @@
 -- The ends of links as node numbers, the links that are kept, and those that are added. Document 01, "Folding", rule 6.
-use Prim.Native.Nat.{ℕ, suc, _+_, _*_, _≤_, _<_}
+use Prim.Native.Nat.{ℕ, suc, _+_, _*_, _-_, _≤_, _<_}
 use mathlib.Core.Bool.{Bool, true, cond, not, _&&_}
 use mathlib.Core.List.{List, [], _∷_, _++_, map}
 use mathlib.Core.Option.{Option, none, some}
 use mathlib.Core.Path.{_≡_}
 use lib.Dec.{eqb}
 use lib.ListN.{length, getD}
-use Rattle.gfa_spec.specs.Bytes.{any, count, keep, join, sum, part}
-use Rattle.gfa_spec.specs.Reading.{Segment}
+use Rattle.gfa_spec.specs.Bytes.{any, count, keep, join, sum, nth, distinct}
+use Rattle.gfa_spec.specs.Reading.{Segment, Link}
 use Rattle.gfa_spec.specs.Records.{isSelfLink}
 use Rattle.gfa_spec.specs.Runs.{bit}
-use Rattle.gfa_spec.proofs.Tests.{distinct}
-use Rattle.normalize_spec.specs.Folding.{sameNewNode}
+use Rattle.normalize_spec.specs.Folding.{NewStep, sameNewNode}
 use Rattle.normalize_spec.specs.Links.{Key, isRemoved, sameKey, keyOf, adjacent, missing}
-use Rattle.work.specs.Rows.{rowsAt, EachRow, span, Only}
-use Rattle.gfa.specs.declared.tables.Bases.{Bases}
-use Rattle.gfa.specs.declared.tables.Counts.{Counts}
-use Rattle.gfa.specs.Tables.{Few}
-use Rattle.gfa.specs.Lines.{Laid}
-use Rattle.gfa.specs.Segments.{segmentsAt, idsOf}
-use Rattle.gfa.specs.Links.{linkAt, linksAt}
+use Rattle.work.specs.Rows.{EachRow, Small, span, Only}
+use Rattle.tables.specs.declared.tables.Bases.{Bases}
+use Rattle.tables.specs.declared.tables.Counts.{Counts}
+use Rattle.tables.specs.Segments.{idsOf}
+use Rattle.tables.specs.declared.rows.Place.{Place}
+use Rattle.tables.specs.declared.rows.LinkWords.{LinkWords}
+use Rattle.tables.specs.ByNumber.{linkNo, segmentsOf, linksTo, bytesIn}
 use Rattle.normalize_tables.specs.declared.layout.Layout.{Layout}
 use Rattle.normalize_tables.specs.declared.layout.Made.{Made}
-use Rattle.normalize_tables.specs.Layout.{Placed, Source}
+use Rattle.normalize_tables.specs.Layout.{Source}
 use Rattle.normalize_tables.specs.Marks.{Marked}
-use Rattle.normalize_tables.specs.News.{namesAt, placeOf, newStepAt, newStepsAt, newPathsAt, keysAt, KeyRow}
+use Rattle.normalize_tables.specs.declared.rows.NewStepWords.{NewStepWords}
+use Rattle.normalize_tables.specs.News.{namesAt, placeOf, keysAt, KeyRow}
+use Rattle.normalize_tables.specs.NewByNumber.{newStepNo, newStepsFrom, newPathsTo, NewStepIs, stepIs}
 use Rattle.normalize_tables.specs.Rewritten.{NewRows, Relinked}
+use Rattle.relink.specs.declared.ends.Ends.{Ends}
+use Rattle.relink.specs.declared.lookup.Pair.{Pair}
 use Rattle.relink.specs.declared.pairs.Tally.{Tally}
 use Rattle.relink.specs.declared.settle.Links.{Links}
 
@@ -37,7 +40,7 @@ pub record Relinkable (text work : List ℕ) (b : Bases) (n : Counts) (g : Layou
   pub source : Source text work b n g
   pub rows : NewRows work n g m
   pub apart : distinct (namesAt text work b n g (m .first) (m .segs)) ≡ true
-  pub steps : m .steps ≡ sum (map length (newPathsAt (namesAt text work b n g (m .first) (m .segs)) (g .steps) work (g .paths) (n .paths)))
+  pub steps : m .steps ≡ sum (map length (newPathsTo (namesAt text work b n g (m .first) (m .segs)) work g (n .paths)))
 
 -- ---- the ends of a link
 
@@ -46,51 +49,67 @@ unfoldable pub wordOf : Option ℕ → ℕ
 wordOf none = 0
 wordOf (some k) = suc k
 
--- The word for the node whose name has its start and length at the word `at`.
-pub record NodeWord (text work : List ℕ) (b : Bases) (n : Counts) (g : Layout) (m : Made) (at r : ℕ) : Type 0 where
-  pub answer : r ≡ wordOf (placeOf (namesAt text work b n g (m .first) (m .segs)) (part (getD work at 0) (getD work (at + 1) 0) text))
+-- The word for the node that has the name.
+pub record NodeWord (text work : List ℕ) (b : Bases) (n : Counts) (g : Layout) (m : Made) (name : Place) (r : ℕ) : Type 0 where
+  pub answer : r ≡ wordOf (placeOf (namesAt text work b n g (m .first) (m .segs)) (bytesIn text name))
   pub few : r ≤ n .segs + m .segs
 
--- 1 where the link at the word `at`, whose first node has the word `from`, is removed, else 0.
-pub record GoneIs (text work : List ℕ) (b : Bases) (n : Counts) (g : Layout) (at from r : ℕ) : Type 0 where
-  pub answer : (p : Segment → Bool) (more : List (List ℕ)) → Marked p text work b n (g .folded)
-      → from ≡ wordOf (placeOf (idsOf (segmentsAt text work (b .segs) (n .segs)) ++ more) (linkAt text work at .from))
-      → r ≡ bit (isRemoved (keep p (segmentsAt text work (b .segs) (n .segs))) (linkAt text work at))
-  pub few : r ≤ bit (isSelfLink (linkAt text work at))
+-- the link whose words these are
+abbrev pub linkIn : List ℕ → LinkWords → Link
+linkIn text l = record { from = bytesIn text (l .from); fromOrientation = l .leaves; to = bytesIn text (l .to); toOrientation = l .enters; line = bytesIn text (l .line) }
 
--- The three words of link i: the words for its nodes, and 1 where it is removed.
+-- 1 where the link, whose first node has the word `from`, is removed, else 0.
+pub record GoneIs (text work : List ℕ) (b : Bases) (n : Counts) (g : Layout) (l : LinkWords) (from r : ℕ) : Type 0 where
+  pub answer : (p : Segment → Bool) (more : List (List ℕ)) → Marked p text work b n (g .folded)
+      → from ≡ wordOf (placeOf (idsOf (segmentsOf text work b n) ++ more) (bytesIn text (l .from)))
+      → r ≡ bit (isRemoved (keep p (segmentsOf text work b n)) (linkIn text l))
+  pub few : r ≤ bit (isSelfLink (linkIn text l))
+  pub small : r ≤ 1
+
+-- The three words of a link, each small.
+pub record EndsIs (text work : List ℕ) (b : Bases) (n : Counts) (g : Layout) (m : Made) (l : LinkWords) (r : Ends) : Type 0 where
+  pub from : NodeWord text work b n g m (l .from) (r .from)
+  pub to : NodeWord text work b n g m (l .to) (r .to)
+  pub gone : GoneIs text work b n g l (r .from) (r .gone)
+  pub small : Small (r .from ∷ r .to ∷ r .gone ∷ [])
+  pub room : g .ends + 3 * n .links ≤ length work
+
+-- the three words of link i, as they stand
+abbrev pub endsNo : List ℕ → Layout → ℕ → Ends
+endsNo work g i = record { from = getD work (g .ends + 3 * i) 0; to = getD work (g .ends + 3 * i + 1) 0; gone = getD work (g .ends + 3 * i + 2) 0 }
+
+-- What they say: the words for its nodes, and 1 where it is removed.
 pub record EndsRow (text : List ℕ) (names : List (List ℕ)) (fs : List Segment) (work : List ℕ) (b : Bases) (g : Layout) (i : ℕ) : Type 0 where
-  pub from : getD work (g .ends + 3 * i) 0 ≡ wordOf (placeOf names (linkAt text work (b .links + 8 * i) .from))
-  pub to : getD work (g .ends + 3 * i + 1) 0 ≡ wordOf (placeOf names (linkAt text work (b .links + 8 * i) .to))
-  pub gone : getD work (g .ends + 3 * i + 2) 0 ≡ bit (isRemoved fs (linkAt text work (b .links + 8 * i)))
+  pub from : endsNo work g i .from ≡ wordOf (placeOf names (linkNo text work b i .from))
+  pub to : endsNo work g i .to ≡ wordOf (placeOf names (linkNo text work b i .to))
+  pub gone : endsNo work g i .gone ≡ bit (isRemoved fs (linkNo text work b i))
 
 -- The words of link i are put; the answer is the third.
 pub record EndsPut (text before work : List ℕ) (b : Bases) (n : Counts) (g : Layout) (m : Made) (i r : ℕ) : Type 0 where
+  pub ready : Relinkable text work b n g m
   pub row : (p : Segment → Bool) → Marked p text before b n (g .folded)
-      → EndsRow text (namesAt text before b n g (m .first) (m .segs)) (keep p (segmentsAt text before (b .segs) (n .segs))) work b g i
-  pub answer : r ≡ getD work (g .ends + 3 * i + 2) 0
-  pub few : r ≤ bit (isSelfLink (linkAt text before (b .links + 8 * i)))
+      → EndsRow text (namesAt text before b n g (m .first) (m .segs)) (keep p (segmentsOf text before b n)) work b g i
+  pub answer : r ≡ endsNo work g i .gone
+  pub few : r ≤ bit (isSelfLink (linkNo text before b i))
+  pub small : r ≤ 1
   pub long : length work ≡ length before
   pub only : Only (span (g .ends + 3 * i) (g .ends + 3 * i + 3) ∷ []) before work
 
 -- The words of all links are put, and the removed ones counted.
 pub record AllEnds (text before work : List ℕ) (b : Bases) (n : Counts) (g : Layout) (m : Made) (r : ℕ) : Type 0 where
+  pub ready : Relinkable text work b n g m
   pub rows : (p : Segment → Bool) → Marked p text before b n (g .folded) → (i : ℕ) → i < n .links
-      → EndsRow text (namesAt text before b n g (m .first) (m .segs)) (keep p (segmentsAt text before (b .segs) (n .segs))) work b g i
+      → EndsRow text (namesAt text before b n g (m .first) (m .segs)) (keep p (segmentsOf text before b n)) work b g i
   pub removed : (p : Segment → Bool) → Marked p text before b n (g .folded)
-      → r ≡ count (isRemoved (keep p (segmentsAt text before (b .segs) (n .segs)))) (linksAt text before (b .links) (n .links))
-  pub few : r ≤ count isSelfLink (linksAt text before (b .links) (n .links))
+      → r ≡ count (isRemoved (keep p (segmentsOf text before b n))) (linksTo text before b (n .links))
+  pub few : r ≤ count isSelfLink (linksTo text before b (n .links))
   pub long : length work ≡ length before
   pub only : Only (span (g .ends) (g .ends + 3 * n .links) ∷ []) before work
 
 -- ---- pairs and links
 
--- What is asked before a link is looked for: the tables lie in the work area, and the new steps and the added links may be relied on.
-pub record Linkable (work : List ℕ) (b : Bases) (n : Counts) (g : Layout) (m : Made) (added : ℕ) : Type 0 where
-  pub laid : Laid b n (length work)
-  pub few : Few n
-  pub placed : Placed b n g (length work)
-  pub rows : NewRows work n g m
+-- The first `added` words of the added links may be relied on, and there is room for them.
+pub record AddedRows (work : List ℕ) (n : Counts) (g : Layout) (m : Made) (added : ℕ) : Type 0 where
   pub keys : EachRow (KeyRow (m .steps)) 1 work (g .added) added
   pub high : added ≤ n .steps
 
@@ -101,41 +120,64 @@ pub record Ended (text : List ℕ) (names : List (List ℕ)) (fs : List Segment)
   pub ends : (i : ℕ) → i < n .links → EndsRow text names fs work b g i
 
 -- the four parts of a new step and the step behind it
-abbrev pub pairAt : List (List ℕ) → ℕ → List ℕ → ℕ → Key
-pairAt names steps work step = record { from = newStepAt names work (steps + 2 * step); to = newStepAt names work (steps + 2 * (step + 1)) }
+abbrev pub pairNo : List (List ℕ) → List ℕ → Layout → ℕ → Key
+pairNo names work g step = record { from = newStepNo names work g step; to = newStepNo names work g (step + 1) }
+
+-- the same by the words of a pair
+abbrev pub stepIn : List (List ℕ) → NewStepWords → NewStep
+stepIn names s = record { name = nth (s .node) names []; orientation = s .mark }
+
+abbrev pub keyIn : List (List ℕ) → Pair → Key
+keyIn names p = record { from = stepIn names (p .first); to = stepIn names (p .second) }
+
+-- The words are those of a new step and the step behind it.
+pub record PairIs (work : List ℕ) (n : Counts) (g : Layout) (m : Made) (step : ℕ) (p : Pair) : Type 0 where
+  pub first : NewStepIs work n g m step (p .first)
+  pub second : NewStepIs work n g m (step + 1) (p .second)
+  pub few : n .segs + m .segs < 4294967296
+
+-- A pair of nodes, of which there are not many.
+abbrev pub PairThere : Counts → Made → Pair → Type 0
+PairThere n m p = (p .first .node < n .segs + m .segs) × (p .second .node < n .segs + m .segs) × (n .segs + m .segs < 4294967296)
 
 -- the kept links of the text, by their four parts
 abbrev pub keptKeys : List ℕ → List Segment → List ℕ → Bases → ℕ → List Key
-keptKeys text fs work b i = map keyOf (keep (λ l. not (isRemoved fs l)) (linksAt text work (b .links) i))
+keptKeys text fs work b i = map keyOf (keep (λ l. not (isRemoved fs l)) (linksTo text work b i))
 
--- two new steps have the same words
-abbrev pub stepIs : List ℕ → ℕ → ℕ → Bool
-stepIs work a c = eqb (getD work a 0) (getD work c 0) && eqb (getD work (a + 1) 0) (getD work (c + 1) 0)
+-- two pairs have the same words
+abbrev pub pairIs : Pair → Pair → Bool
+pairIs p q = stepIs (p .first) (q .first) && stepIs (p .second) (q .second)
 
--- a new step has the node of an end of a link, and its orientation
-abbrev pub endIs : List ℕ → ℕ → ℕ → ℕ → Bool
-endIs work a end mark = eqb (getD work a 0 + 1) (getD work end 0) && eqb (getD work (a + 1) 0) (getD work mark 0)
+-- the words for the nodes of a link are those of the pair
+abbrev pub nodesAre : Pair → Ends → Bool
+nodesAre p e = eqb (p .first .node + 1) (e .from) && eqb (p .second .node + 1) (e .to)
 
--- link i of the text is kept, and has the parts of a new step and the step behind it
-abbrev pub linkIs : List ℕ → Bases → Layout → ℕ → ℕ → Bool
-linkIs work b g step i =
-    eqb (getD work (g .ends + 3 * i + 2) 0) 0
-    && (endIs work (g .steps + 2 * step) (g .ends + 3 * i) (b .links + 8 * i + 4) && endIs work (g .steps + 2 * step + 2) (g .ends + 3 * i + 1) (b .links + 8 * i + 7))
+-- its orientations are
+abbrev pub marksAre : Pair → ℕ → ℕ → Bool
+marksAre p leaves enters = eqb (p .first .mark) leaves && eqb (p .second .mark) enters
 
--- A kept link of the text has these parts.
-pub record KeptIs (work : List ℕ) (b : Bases) (n : Counts) (g : Layout) (m : Made) (step : ℕ) (r : Bool) : Type 0 where
-  pub answer : (text : List ℕ) (names : List (List ℕ)) (fs : List Segment) → Ended text names fs work b n g m
-      → r ≡ any (sameKey (pairAt names (g .steps) work step)) (keptKeys text fs work b (n .links))
+-- Link i of the text is kept, and has the parts of the pair.
+pub record LinkMatch (text work : List ℕ) (b : Bases) (n : Counts) (g : Layout) (m : Made) (p : Pair) (i : ℕ) (r : Bool) : Type 0 where
+  pub answer : (names : List (List ℕ)) (fs : List Segment) → Ended text names fs work b n g m
+      → r ≡ (not (isRemoved fs (linkNo text work b i)) && sameKey (keyIn names p) (keyOf (linkNo text work b i)))
+
+-- A kept link of the text has them.
+pub record KeptIs (text work : List ℕ) (b : Bases) (n : Counts) (g : Layout) (m : Made) (p : Pair) (r : Bool) : Type 0 where
+  pub answer : (names : List (List ℕ)) (fs : List Segment) → Ended text names fs work b n g m
+      → r ≡ any (sameKey (keyIn names p)) (keptKeys text fs work b (n .links))
 
 -- An added link has them.
-pub record AddedIs (work : List ℕ) (n : Counts) (g : Layout) (m : Made) (added step : ℕ) (r : Bool) : Type 0 where
+pub record AddedIs (work : List ℕ) (n : Counts) (g : Layout) (m : Made) (added : ℕ) (p : Pair) (r : Bool) : Type 0 where
   pub answer : (names : List (List ℕ)) → distinct names ≡ true → length names ≡ n .segs + m .segs
-      → r ≡ any (sameKey (pairAt names (g .steps) work step)) (keysAt names (g .steps) work (g .added) added)
+      → r ≡ any (sameKey (keyIn names p)) (keysAt names (g .steps) work (g .added) added)
 
--- A kept or an added link has them.
-pub record LinkFound (work : List ℕ) (b : Bases) (n : Counts) (g : Layout) (m : Made) (added step : ℕ) (r : Bool) : Type 0 where
-  pub answer : (text : List ℕ) (names : List (List ℕ)) (fs : List Segment) → Ended text names fs work b n g m
-      → r ≡ any (sameKey (pairAt names (g .steps) work step)) (keptKeys text fs work b (n .links) ++ keysAt names (g .steps) work (g .added) added)
+-- A kept or an added link has them. There is room for one word for each step.
+pub record LinkFound (text work : List ℕ) (b : Bases) (n : Counts) (g : Layout) (m : Made) (added : ℕ) (p : Pair) (r : Bool) : Type 0 where
+  pub answer : (names : List (List ℕ)) (fs : List Segment) → Ended text names fs work b n g m
+      → r ≡ any (sameKey (keyIn names p)) (keptKeys text fs work b (n .links) ++ keysAt names (g .steps) work (g .added) added)
+  pub room : g .added + n .steps ≤ length work
+  pub few : n .steps ≤ 2097152
+  pub made : m .steps ≤ n .steps
 
 -- ---- added links
 
@@ -162,44 +204,43 @@ pub record Grows (before work : List ℕ) (n : Counts) (g : Layout) (m : Made) (
   pub low : s .added ≤ t .added
   pub high : t .added ≤ s .added + most
   pub loops : t .loops + s .added ≤ s .loops + t .added
-  pub keys : EachRow (KeyRow (m .steps)) 1 work (g .added) (t .added)
+  pub rows : AddedRows work n g m (t .added)
   pub long : length work ≡ length before
   pub only : Only (span (g .added) (g .added + n .steps) ∷ []) before work
 
 -- The pair of a new step and the step behind it is added, where no link has its four parts.
-pub record PairAdded (before work : List ℕ) (b : Bases) (n : Counts) (g : Layout) (m : Made) (s : Tally) (step : ℕ) (r : Tally) : Type 0 where
-  pub adds : (text : List ℕ) (names : List (List ℕ)) (fs : List Segment) → Ended text names fs before b n g m
-      → Adds text names fs before work b n g s r (pairAt names (g .steps) before step ∷ []) []
+pub record PairAdded (text before work : List ℕ) (b : Bases) (n : Counts) (g : Layout) (m : Made) (s : Tally) (step : ℕ) (r : Tally) : Type 0 where
+  pub ready : Relinkable text work b n g m
+  pub adds : (names : List (List ℕ)) (fs : List Segment) → Ended text names fs before b n g m
+      → Adds text names fs before work b n g s r (pairNo names before g step ∷ []) []
   pub grows : Grows before work n g m s r 1
 
 -- The pairs of a new path are.
-pub record PathAdded (before work : List ℕ) (b : Bases) (n : Counts) (g : Layout) (m : Made) (s : Tally) (first size : ℕ) (r : Tally) : Type 0 where
-  pub adds : (text : List ℕ) (names : List (List ℕ)) (fs : List Segment) → Ended text names fs before b n g m
-      → Adds text names fs before work b n g s r (adjacent (newStepsAt names before (g .steps + 2 * first) size)) []
-  pub grows : Grows before work n g m s r size
-
--- the lengths of the first n new paths
-unfoldable pub lengthsAt : List ℕ → ℕ → ℕ → List ℕ
-lengthsAt work base n = rowsAt (λ w at. getD w (at + 1) 0) 2 work base n
+pub record PathAdded (text before work : List ℕ) (b : Bases) (n : Counts) (g : Layout) (m : Made) (s : Tally) (first end : ℕ) (r : Tally) : Type 0 where
+  pub ready : Relinkable text work b n g m
+  pub adds : (names : List (List ℕ)) (fs : List Segment) → Ended text names fs before b n g m
+      → Adds text names fs before work b n g s r (adjacent (newStepsFrom names before g first end)) []
+  pub grows : Grows before work n g m s r (end - first)
 
 -- no link is added
 abbrev pub noneAdded : Tally
 noneAdded = record { added = 0; loops = 0 }
 
 -- The pairs of all new paths are.
-pub record PathsAdded (before work : List ℕ) (b : Bases) (n : Counts) (g : Layout) (m : Made) (r : Tally) : Type 0 where
-  pub adds : (text : List ℕ) (names : List (List ℕ)) (fs : List Segment) → Ended text names fs before b n g m
-      → Adds text names fs before work b n g noneAdded r (join (map adjacent (newPathsAt names (g .steps) before (g .paths) (n .paths)))) []
-  pub grows : Grows before work n g m noneAdded r (sum (lengthsAt before (g .paths) (n .paths)))
+pub record PathsAdded (text before work : List ℕ) (b : Bases) (n : Counts) (g : Layout) (m : Made) (r : Tally) : Type 0 where
+  pub ready : Relinkable text work b n g m
+  pub adds : (names : List (List ℕ)) (fs : List Segment) → Ended text names fs before b n g m
+      → Adds text names fs before work b n g noneAdded r (join (map adjacent (newPathsTo names before g (n .paths)))) []
+  pub grows : Grows before work n g m noneAdded r (m .steps)
 
 -- ---- the links
 
 -- The links are settled: which are removed, which are added, and how many of those that there are now have equal ends.
 pub record SettledIs (text before work : List ℕ) (b : Bases) (n : Counts) (g : Layout) (m : Made) (r : Links) : Type 0 where
   pub settled : (p : Segment → Bool) → Marked p text before b n (g .folded)
-      → Relinked text work b n g (keep p (segmentsAt text before (b .segs) (n .segs))) m (r .added)
-      × (r .removed ≡ count (isRemoved (keep p (segmentsAt text before (b .segs) (n .segs)))) (linksAt text before (b .links) (n .links)))
-      × (r .loops ≡ count isSelfLink (keep (λ l. not (isRemoved (keep p (segmentsAt text before (b .segs) (n .segs))) l)) (linksAt text before (b .links) (n .links)))
+      → Relinked text work b n g (keep p (segmentsOf text before b n)) m (r .added)
+      × (r .removed ≡ count (isRemoved (keep p (segmentsOf text before b n))) (linksTo text before b (n .links)))
+      × (r .loops ≡ count isSelfLink (keep (λ l. not (isRemoved (keep p (segmentsOf text before b n)) l)) (linksTo text before b (n .links)))
       + count (λ k. sameNewNode (k .from) (k .to)) (keysAt (namesAt text before b n g (m .first) (m .segs)) (g .steps) work (g .added) (r .added)))
   pub rows : EachRow (KeyRow (m .steps)) 1 work (g .added) (r .added)
   pub few : r .added ≤ m .steps

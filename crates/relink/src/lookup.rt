@@ -1,62 +1,79 @@
-// Is there a link of exactly the four parts of a new step and the step behind it? Nodes are compared by their numbers.
-ghost use mathlib.Core.Bool.{_&&_};
+// Is there a link of exactly the four parts of a pair of new steps? Nodes are compared by their numbers.
 ghost use mathlib.Core.Path.{_≡_};
-ghost use Prim.Native.Nat.{_+_, _≤_, _<_};
-ghost use lib.ListN.{length, getD};
-ghost use Rattle.relink.specs.Relinking.{Linkable, stepIs, endIs, linkIs, KeptIs, AddedIs, LinkFound};
-use gfa::tables::Bases;
-use gfa::tables::Counts;
-use normalize_tables::layout::Layout;
-use normalize_tables::layout::Made;
+ghost use Prim.Native.Nat.{_+_, _<_};
+ghost use Rattle.relink.specs.Relinking.{Relinkable, AddedRows, PairThere, PairIs, pairIs, nodesAre, marksAre, LinkMatch, KeptIs, AddedIs, LinkFound};
+use crate::ends::Ends;
+use crate::ends::ends_at;
+use normalize_tables::layout::Area;
+use normalize_tables::rows::NewStepWords;
+use normalize_tables::rows::new_step_at;
+use normalize_tables::rows::same_new_step;
+use tables::entry::LinkNo;
+use tables::rows::link_at;
 use work::work::word;
 
-// Are the new steps at the words `a` and `c` equal?
-pub fn same_new_step(work: &[u32], a: usize, c: usize) -> bool
-    requires { ⌜ (a + 2 ≤ length (now work)) × (c + 2 ≤ length (now work)) ⌝ }
-    ensures { λ r. ⌜ r ≡ stepIs (now (work .entry)) a c ⌝ }
-{
-    if word(work, a) != word(work, c) {
-        return false;
-    }
-    word(work, a + 1) == word(work, c + 1)
+// A new step and the step behind it.
+pub struct Pair {
+    pub first: NewStepWords,
+    pub second: NewStepWords,
 }
 
-// Is the new step at the word `a` the end of a link that has its node at the word `end` and its orientation at the word `mark`?
-pub fn is_end(work: &[u32], a: usize, end: usize, mark: usize) -> bool
-    requires { ⌜ (a + 2 ≤ length (now work)) × (end < length (now work)) × (mark < length (now work)) × (getD (now work) a 0 ≤ 4294967296) ⌝ }
-    ensures { λ r. ⌜ r ≡ endIs (now (work .entry)) a end mark ⌝ }
+// The pair of new step `step` and the step behind it.
+pub fn pair_at(text: &[u8], work: &[u32], a: Area, step: usize) -> Pair
+    requires { ⌜ Relinkable (now text) (now work) (a .b) (a .n) (a .g) (a .m) × (step + 1 < a .m .steps) ⌝ }
+    ensures { λ r. ⌜ PairIs (now (work .entry)) (a .n) (a .g) (a .m) step r ⌝ }
 {
-    if word(work, a) + 1 != word(work, end) {
-        return false;
+    Pair {
+        first: new_step_at(work, a, step),
+        second: new_step_at(work, a, step + 1),
     }
-    word(work, a + 1) == word(work, mark)
 }
 
-// Is link `i` of the text kept, with the parts of a new step and the step behind it?
-pub fn is_link(work: &[u32], b: Bases, n: Counts, g: Layout, m: Made, step: usize, i: usize) -> bool
-    requires { ⌜ Linkable (now work) b n g m 0 × (step + 1 < m .steps) × (i < n .links) ⌝ }
-    ensures { λ r. ⌜ r ≡ linkIs (now (work .entry)) b g step i ⌝ }
+// Has a link with these words the nodes of the pair?
+pub fn has_nodes(p: Pair, e: Ends) -> bool
+    requires { ⌜ (p .first .node < 4294967296) × (p .second .node < 4294967296) ⌝ }
+    ensures { λ r. ⌜ r ≡ nodesAre p e ⌝ }
 {
-    let row = b.links + 8 * i;
-    let ends = g.ends + 3 * i;
-    if word(work, ends + 2) != 0 {
+    if p.first.node + 1 != e.from {
         return false;
     }
-    let at = g.steps + 2 * step;
-    if !is_end(work, at, ends, row + 4) {
-        return false;
-    }
-    is_end(work, at + 2, ends + 1, row + 7)
+    p.second.node + 1 == e.to
 }
 
-// Has a kept link of the text these parts?
-pub fn kept_link(work: &[u32], b: Bases, n: Counts, g: Layout, m: Made, step: usize) -> bool
-    requires { ⌜ Linkable (now work) b n g m 0 × (step + 1 < m .steps) ⌝ }
-    ensures { λ r. ⌜ KeptIs (now (work .entry)) b n g m step r ⌝ }
+// Has a link with these orientations those of the pair?
+pub fn has_marks(p: Pair, leaves: usize, enters: usize) -> bool
+    ensures { λ r. ⌜ r ≡ marksAre p leaves enters ⌝ }
+{
+    if p.first.mark != leaves {
+        return false;
+    }
+    p.second.mark == enters
+}
+
+// Is link `i` of the text kept, with the parts of the pair? Its row is read only where it has the nodes.
+pub fn is_link(text: &[u8], work: &[u32], a: Area, p: Pair, i: LinkNo) -> bool
+    requires { ⌜ Relinkable (now text) (now work) (a .b) (a .n) (a .g) (a .m) × PairThere (a .n) (a .m) p × (i .0 < a .n .links) ⌝ }
+    ensures { λ r. ⌜ LinkMatch (now (text .entry)) (now (work .entry)) (a .b) (a .n) (a .g) (a .m) p (i .0) r ⌝ }
+{
+    let e = ends_at(work, a, i);
+    if e.gone != 0 {
+        return false;
+    }
+    if !has_nodes(p, e) {
+        return false;
+    }
+    let l = link_at(text, work, a.b, a.n, i);
+    has_marks(p, l.leaves, l.enters)
+}
+
+// Has a kept link of the text the parts of the pair?
+pub fn kept_link(text: &[u8], work: &[u32], a: Area, p: Pair) -> bool
+    requires { ⌜ Relinkable (now text) (now work) (a .b) (a .n) (a .g) (a .m) × PairThere (a .n) (a .m) p ⌝ }
+    ensures { λ r. ⌜ KeptIs (now (text .entry)) (now (work .entry)) (a .b) (a .n) (a .g) (a .m) p r ⌝ }
 {
     let mut i = 0;
-    while i < n.links {
-        if is_link(work, b, n, g, m, step, i) {
+    while i < a.n.links {
+        if is_link(text, work, a, p, LinkNo(i as u32)) {
             return true;
         }
         i += 1;
@@ -64,35 +81,25 @@ pub fn kept_link(work: &[u32], b: Bases, n: Counts, g: Layout, m: Made, step: us
     false
 }
 
-// Are the new step at the word `a` and the step behind it equal to those at `c`?
-fn same_pair(work: &[u32], a: usize, c: usize) -> bool
-    requires { ⌜ (a + 4 ≤ length (now work)) × (c + 4 ≤ length (now work)) ⌝ }
-    ensures { λ r. ⌜ r ≡ (stepIs (now (work .entry)) a c && stepIs (now (work .entry)) (a + 2) (c + 2)) ⌝ }
+// Are two pairs equal?
+fn same_pair(p: Pair, q: Pair) -> bool
+    ensures { λ r. ⌜ r ≡ pairIs p q ⌝ }
 {
-    if !same_new_step(work, a, c) {
+    if !same_new_step(p.first, q.first) {
         return false;
     }
-    same_new_step(work, a + 2, c + 2)
+    same_new_step(p.second, q.second)
 }
 
-// Has one of the `added` links these parts?
-pub fn added_link(
-    work: &[u32],
-    b: Bases,
-    n: Counts,
-    g: Layout,
-    m: Made,
-    added: usize,
-    step: usize,
-) -> bool
-    requires { ⌜ Linkable (now work) b n g m added × (step + 1 < m .steps) ⌝ }
-    ensures { λ r. ⌜ AddedIs (now (work .entry)) n g m added step r ⌝ }
+// Has one of the `added` links the parts of the pair?
+pub fn added_link(text: &[u8], work: &[u32], a: Area, added: usize, p: Pair) -> bool
+    requires { ⌜ Relinkable (now text) (now work) (a .b) (a .n) (a .g) (a .m) × AddedRows (now work) (a .n) (a .g) (a .m) added × PairThere (a .n) (a .m) p ⌝ }
+    ensures { λ r. ⌜ AddedIs (now (work .entry)) (a .n) (a .g) (a .m) added p r ⌝ }
 {
-    let at = g.steps + 2 * step;
     let mut i = 0;
     while i < added {
-        let other = word(work, g.added + i);
-        if same_pair(work, at, g.steps + 2 * other) {
+        let other = pair_at(text, work, a, word(work, a.g.added + i));
+        if same_pair(p, other) {
             return true;
         }
         i += 1;
@@ -100,21 +107,13 @@ pub fn added_link(
     false
 }
 
-// Has a kept link of the text, or one of the `added` links, these parts?
-pub fn find_link(
-    work: &[u32],
-    b: Bases,
-    n: Counts,
-    g: Layout,
-    m: Made,
-    added: usize,
-    step: usize,
-) -> bool
-    requires { ⌜ Linkable (now work) b n g m added × (step + 1 < m .steps) ⌝ }
-    ensures { λ r. ⌜ LinkFound (now (work .entry)) b n g m added step r ⌝ }
+// Has a kept link of the text, or one of the `added` links, the parts of the pair?
+pub fn find_link(text: &[u8], work: &[u32], a: Area, added: usize, p: Pair) -> bool
+    requires { ⌜ Relinkable (now text) (now work) (a .b) (a .n) (a .g) (a .m) × AddedRows (now work) (a .n) (a .g) (a .m) added × PairThere (a .n) (a .m) p ⌝ }
+    ensures { λ r. ⌜ LinkFound (now (text .entry)) (now (work .entry)) (a .b) (a .n) (a .g) (a .m) added p r ⌝ }
 {
-    if kept_link(work, b, n, g, m, step) {
+    if kept_link(text, work, a, p) {
         return true;
     }
-    added_link(work, b, n, g, m, added, step)
+    added_link(text, work, a, added, p)
 }

@@ -2,11 +2,8 @@
 ghost use Rattle.relink.specs.Relinking.{Relinkable, SettledIs};
 use crate::ends::put_all_ends;
 use crate::pairs::add_paths;
-use gfa::counts::self_links;
-use gfa::tables::Bases;
-use gfa::tables::Counts;
-use normalize_tables::layout::Layout;
-use normalize_tables::layout::Made;
+use normalize_tables::layout::Area;
+use runs::counts::self_links;
 
 // How many links are added and how many are removed, and how many of those that there are now have equal ends.
 pub struct Links {
@@ -16,13 +13,13 @@ pub struct Links {
 }
 
 // Marks the links that are removed, and adds those that are missing.
-pub fn settle_links(text: &[u8], work: &mut [u32], b: Bases, n: Counts, g: Layout, m: Made) -> Links
-    requires { ⌜ Relinkable (now text) (now work) b n g m ⌝ }
-    ensures { λ r. ⌜ SettledIs (now (text .entry)) (now (work .entry)) (now (work .exit)) b n g m r ⌝ }
+pub fn settle_links(text: &[u8], work: &mut [u32], a: Area) -> Links
+    requires { ⌜ Relinkable (now text) (now work) (a .b) (a .n) (a .g) (a .m) ⌝ }
+    ensures { λ r. ⌜ SettledIs (now (text .entry)) (now (work .entry)) (now (work .exit)) (a .b) (a .n) (a .g) (a .m) r ⌝ }
 {
-    let removed = put_all_ends(text, work, b, n, g, m);
-    let tally = add_paths(work, b, n, g, m);
-    let all = self_links(text, work, b, n);
+    let removed = put_all_ends(text, work, a);
+    let tally = add_paths(text, work, a);
+    let all = self_links(text, work, a.b, a.n);
     Links {
         added: tally.added,
         removed,

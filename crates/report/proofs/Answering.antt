@@ -1,7 +1,6 @@
 -- The report is written, and answered. Assumes nothing.
-use Prim.Native.Nat.{ℕ, suc, _+_, _*_, _≤_, _<_, min}
+use Prim.Native.Nat.{ℕ, _+_, _≤_, _<_, min}
 use native.Mathlib.Omega.{arith}
-use mathlib.Core.Bool.{true, false}
 use mathlib.Core.List.{List, map, append-assoc}
 use mathlib.Core.Option.{Option, none, some}
 use mathlib.Core.Path.{_≡_, refl, ap, _∙_}
@@ -14,104 +13,104 @@ use Rattle.gfa_spec.specs.Records.{segmentNumber}
 use Rattle.gfa_spec.specs.Runs.{stepCount}
 use Rattle.gfa_spec.proofs.Admission.{input-entries}
 use Rattle.gfa_spec.proofs.Answered.{answer-fitted, refused-fitted}
-use Rattle.work.proofs.Rows.{rows-length}
-use Rattle.gfa.specs.declared.tables.Bases.{Bases}
-use Rattle.gfa.specs.declared.tables.Counts.{Counts}
-use Rattle.gfa.specs.declared.input.Answer.{Answer}
-use Rattle.gfa.specs.declared.input.Input.{Input}
-use Rattle.gfa.specs.declared.input.Input.the-variants as input
-use Rattle.gfa.specs.Segments.{segmentAt, segmentsAt}
-use Rattle.gfa.specs.Links.{linksAt}
-use Rattle.gfa.specs.Paths.{pathAt, pathsAt}
-use Rattle.gfa.specs.Entries.{entriesAt}
-use Rattle.gfa.specs.Inputs.{stated, InputRead, InputIs}
-use Rattle.gfa.specs.Passes.{overRows}
-use Rattle.gfa.specs.Served.{Answered, refusedWith}
-use Rattle.gfa.proofs.Serving.{refuses, gives}
-use Rattle.gfa.proofs.Totals.{over-entries}
+use Rattle.tables.specs.declared.tables.Bases.{Bases}
+use Rattle.tables.specs.declared.tables.Counts.{Counts}
+use Rattle.reader.specs.declared.answers.Answer.{Answer}
+use Rattle.reader.specs.declared.input.Input.{Input}
+use Rattle.reader.specs.declared.input.Input.the-variants as input
+use Rattle.tables.specs.ByNumber.{segmentsOf, linksTo, tablesEnd}
+use Rattle.tables.specs.Entries.{entriesAt}
+use Rattle.reader.specs.Inputs.{stated, InputRead, InputIs}
+use Rattle.reader.specs.Served.{Answered, refusedWith}
+use Rattle.reader.proofs.Serving.{refuses, gives}
+use Rattle.runs.proofs.Totals.{readable, over-entries}
 use Rattle.writers.specs.Writers.{Wrote}
 use Rattle.writers.proofs.Writing.{being, _▷_, measured, measured-long, written}
 use Rattle.report_spec.specs.Nodes.{nodes, nodeOf}
 use Rattle.report_spec.specs.Services.{reportEntries, reportText}
 use Rattle.report.specs.declared.totals.Totals.{Totals}
-use Rattle.report.specs.Table.{nameAt, counterAt, wordOf, linksAmong}
-use Rattle.report.specs.Loaded.{tableOf, Loaded}
-use Rattle.report.specs.Ranking.{keyAt, goesBy, upTo}
-use Rattle.report.specs.Report.{nodeAt, WritableRow, listed, Listed}
-use Rattle.report.specs.Groups.{buckets, Numbered, Sized, BucketsIs}
-use Rattle.report.specs.Totals.{lengthsOf, ranksOf, Ranked, TotalsIs, totalLines, reportFrom, Writable}
-use Rattle.report.proofs.Sorting.{sort-each}
-use Rattle.report.proofs.Pairs.{bits-small}
-use Rattle.report.proofs.Linking.{links-few}
-use Rattle.report.proofs.Merges.{nums-below}
-use Rattle.report.proofs.Lengths.{sorted-rising}
-use Rattle.report.proofs.Ordering.{each-up}
-use Rattle.report.proofs.Reported.{number-small, Entered, ranked-loaded, by-length, report-is}
+use Rattle.nodes.specs.Table.{nameNo, numberWord, linksAmong}
+use Rattle.tables.proofs.ByNumber.{links-length, segments-length, paths-length}
+use Rattle.tally.specs.Tabled.{Tabled}
+use Rattle.ranks.specs.declared.ranking.Order.the-variants.{Lengths, Ranks}
+use Rattle.ranks.specs.Ranking.{nodeKey, goesBy, upTo}
+use Rattle.node_lines.specs.NodeLines.{nodeIn, Printable, listed, Listed}
+use Rattle.node_lines.specs.Groups.{buckets, Numbered, Sized, BucketsIs}
+use Rattle.report.specs.Totals.{lengthsOf, ranksOf, Ranked, TotalsIs, totalLines, reportFrom, Reportable}
+use Rattle.ranks.proofs.Sorting.{sort-each}
+use Rattle.nodes.proofs.Pairs.{bits-small}
+use Rattle.ranks.proofs.Merges.{nums-below}
+use Rattle.node_lines.proofs.Lengths.{sorted-rising}
+use Rattle.ranks.proofs.Numbering.{each-up}
+use Rattle.report.proofs.Reported.{number-small, EntriesAre, ranked-tabled, by-length, report-is}
 
 -- ---- what the writers ask
 
 -- a number plus one, of a segment
-word-small : (o : Option ℕ) (n : ℕ) → ((k : ℕ) → o ≡ some k → k < n) → wordOf o ≤ n
-unfolding wordOf
+word-small : (o : Option ℕ) (n : ℕ) → ((k : ℕ) → o ≡ some k → k < n) → numberWord o ≤ n
+unfolding numberWord
 word-small none n h = omega arith
 word-small (some k) n h = h k refl
 
-module _ {text w : List ℕ} {b : Bases} {n : Counts} {m : ℕ} (v : Writable text w b n m) where
-  pub numbered : Numbered w (tableOf b n) (lengthsOf b n) m
+module _ {text w : List ℕ} {b : Bases} {n : Counts} {m : ℕ} (v : Reportable text w b n m) where
+  pub numbered : Numbered w (tablesEnd b n) (lengthsOf b n) m
   numbered =
       record {
-        room = omega (arith, v .loaded .laid .steps, v .few);
-        few = omega (arith, v .loaded .few .2, v .few);
-        rows = λ k h. omega (arith, v .lengths k h, v .loaded .laid .steps, v .few);
+        room = omega (arith, v .tabled .readable .laid .steps, v .few);
+        few = omega (arith, v .tabled .readable .few .2, v .few);
+        rows = λ k h. omega (arith, v .lengths k h, v .tabled .readable .laid .steps, v .few);
       }
 
   pub to-list : {count : ℕ} (top : ℕ) → count ≡ min top m → Listed text w b n (ranksOf b n) count
   to-list top e =
       record {
-        loaded = v .loaded;
-        room = omega (arith, v .loaded .laid .steps, v .few);
-        few = omega (arith, v .loaded .few .2, v .few);
+        readable = v .tabled .readable;
+        room = omega (arith, v .tabled .readable .laid .steps, v .few);
+        few = omega (arith, v .tabled .readable .few .2, v .few);
         rows = λ k h. v .rows (getD w (ranksOf b n + k) 0) (v .ranks k (omega arith));
       }
 
   -- the nodes have their rows' lengths and self-links
-  sized : Sized (λ i. nodeAt text b w (tableOf b n + 14 * i)) w (tableOf b n)
-  unfolding nodeAt
+  sized : Sized (nodeIn text w b n) w (tablesEnd b n)
+  unfolding nodeIn
   sized = record { long = λ i. refl; links = λ i. refl }
 
-  pub whole : (t : Totals) (top : ℕ) {limit r s u count : ℕ} {out o₁ o₂ o₃ : List ℕ} → Wrote limit out 0 (ended (totalLines t m)) o₁ r → BucketsIs limit o₁ r w (tableOf b n) (lengthsOf b n) m o₂ s → count ≡ min top m →
-      Wrote limit o₂ s (ended (join (map nodeLines (listed text b n w (ranksOf b n) count)))) o₃ u → Wrote limit out 0 (reportFrom text b n w m t top) o₃ u
+  pub whole : (t : Totals) (top : ℕ) {limit r s u count : ℕ} {out o₁ o₂ o₃ : List ℕ} → Wrote limit out 0 (ended (totalLines t m)) o₁ r → BucketsIs limit o₁ r w (tablesEnd b n) (lengthsOf b n) m o₂ s → count ≡ min top m →
+      Wrote limit o₂ s (ended (join (map nodeLines (listed text w b n (ranksOf b n) count)))) o₃ u → Wrote limit out 0 (reportFrom text w b n m t top) o₃ u
   unfolding reportFrom listed
-  whole t top a c e d = being (append-assoc (ended (totalLines t m)) (ended (buckets (listed text b n w (lengthsOf b n) m))) (ended (join (map nodeLines (listed text b n w (ranksOf b n) (min top m)))))) (a ▷ c .wrote (λ i. nodeAt text b w (tableOf b n + 14 * i)) sized (v .rising) ▷ (rw e at d))
+  whole t top a c e d =
+      let totals = ended (totalLines t m) in
+      let lengths = ended (buckets (listed text w b n (lengthsOf b n) m)) in
+      let ranks = ended (join (map nodeLines (listed text w b n (ranksOf b n) (min top m)))) in
+      being (append-assoc totals lengths ranks) (a ▷ c .wrote (nodeIn text w b n) sized (v .rising) ▷ (rw e at d))
 
 -- ---- what was ranked can be written
 
-module _ {es : List Entry} {text w w' : List ℕ} {b : Bases} {n : Counts} {m : ℕ} (x : Entered es text w b n) (l : Loaded text w b n) (r : Ranked text w w' b n m) where
+module _ {es : List Entry} {text w w' : List ℕ} {b : Bases} {n : Counts} {m : ℕ} (x : EntriesAre es text w b n) (l : Tabled text w b n) (r : Ranked text w w' b n m) where
   few-rows : m ≤ n .links
-  few-rows = links-few text w (b .links) (n .links) (r .table .few)
+  few-rows = omega (arith, r .table .few, links-length text w b (n .links))
 
-  row-writable : (i : ℕ) → i < m → WritableRow text (n .segs) (n .paths) w' (tableOf b n + 14 * i)
-  unfolding counterAt segmentsAt pathsAt
-  row-writable i h =
-      let q = r .table .rows .row i h in
-      let name = nameAt text w' (tableOf b n + 14 * i) in
-      let many = rows-length (segmentAt text) 6 w (b .segs) (n .segs) in
+  row-printable : (k : ℕ) → k < m → Printable text w' b n k
+  row-printable k h =
+      let q = r .table .rows k h in
+      let name = nameNo text w' (tablesEnd b n) k in
+      let ss = segmentsOf text w b n in
       record {
-        room = omega (arith, l .laid .steps, few-rows, r .long);
-        name = r .table .named .row i h .inside;
-        segment = rw (q .number) (word-small (segmentNumber (segmentsAt text w (b .segs) (n .segs)) name) (n .segs) (λ k e. omega (arith, many, number-small (segmentsAt text w (b .segs) (n .segs)) name k e)));
-        path = omega (arith, r .counts .row i h .counts .known, rows-length (pathAt text (b .steps)) 5 w (b .paths) (n .paths));
-        bits = rw (q .bits) (bits-small (linksAmong (linksAt text w (b .links) (n .links)) name));
+        room = omega (arith, l .readable .laid .steps, few-rows, r .long);
+        name = r .table .inside k h;
+        segment = rw (q .number) (word-small (segmentNumber ss name) (n .segs) (λ k e. omega (arith, segments-length text w b (n .segs), number-small ss name k e)));
+        bits = rw (q .bits) (bits-small (linksAmong (linksTo text w b (n .links)) name));
+        path = omega (arith, r .counts .row k h .known, paths-length text w b (n .paths));
       }
 
-  pub ranked-writable : Writable text w' b n m
-  ranked-writable =
+  pub ranked-reportable : Reportable text w' b n m
+  ranked-reportable =
       record {
-        loaded = ranked-loaded x l r;
+        tabled = ranked-tabled x l r;
         few = few-rows;
-        rows = row-writable;
-        lengths = λ k h. nums-below w' (lengthsOf b n) m m k (rw (r .by-length) (sort-each (λ i j. goesBy true (keyAt w' (tableOf b n + 14 * i)) (keyAt w' (tableOf b n + 14 * j))) (λ i. i < m) (upTo m) (each-up m))) h;
-        ranks = λ k h. nums-below w' (ranksOf b n) m m k (rw (r .by-rank) (sort-each (λ i j. goesBy false (keyAt w' (tableOf b n + 14 * i)) (keyAt w' (tableOf b n + 14 * j))) (λ i. i < m) (upTo m) (each-up m))) h;
+        rows = row-printable;
+        lengths = λ k h. nums-below w' (lengthsOf b n) m m k (rw (r .by-length) (sort-each (λ i j. goesBy Lengths (nodeKey w' (tablesEnd b n) i) (nodeKey w' (tablesEnd b n) j)) (λ i. i < m) (upTo m) (each-up m))) h;
+        ranks = λ k h. nums-below w' (ranksOf b n) m m k (rw (r .by-rank) (sort-each (λ i j. goesBy Ranks (nodeKey w' (tablesEnd b n) i) (nodeKey w' (tablesEnd b n) j)) (λ i. i < m) (upTo m) (each-up m))) h;
         rising = rw (by-length x l r) (sorted-rising (map (nodeOf es) (nodes es)));
       }
 
@@ -136,26 +135,16 @@ report-refused {text} {before} {out = out} {q = q} top h e f u =
     refuses (stated q) (reportText text top (length out) (length before)) (ap (reportEntries top (length out)) (rw e at (h .says))) (f ∙ ap refusedWith e) u
 
 module _ {text before w : List ℕ} {b : Bases} {n : Counts} (h : InputRead text before w b n) where
-  pub entered : Entered (entriesAt text w b (n .lines)) text w b n
+  pub entered : EntriesAre (entriesAt text w b (n .lines)) text w b n
   entered = record { of-segments = h .tables .of-segments; of-links = h .tables .of-links; of-paths = h .tables .of-paths }
 
-  pub read-loaded : Loaded text w b n
-  read-loaded =
+  pub read-tabled : Tabled text w b n
+  read-tabled =
       let a = input-entries text (length before) (entriesAt text w b (n .lines)) (h .read) in
-      let s = h .tables .sound in
-      record {
-        laid = h .tables .laid;
-        few = h .tables .few;
-        short = a .short;
-        visits = over-entries (h .tables) length ∙ (unfold stepCount in h .tables .visits);
-        segs = s .segs;
-        links = s .links;
-        paths = s .paths;
-        steps = s .steps;
-      }
+      record { readable = readable (h .tables); short = a .short; visits = over-entries (h .tables) length ∙ (unfold stepCount in h .tables .visits) }
 
   -- the report is answered
   pub report-answered : {w' out out' : List ℕ} {m : ℕ} {t : Totals} {a : Answer} (top : ℕ) → TotalsIs text w b n t → Ranked text w w' b n m →
-      Answered out out' a (fitted (length out) (reportFrom text b n w' m t top)) → Answered out out' a (reportText text top (length out) (length before))
+      Answered out out' a (fitted (length out) (reportFrom text w' b n m t top)) → Answered out out' a (reportText text top (length out) (length before))
   unfolding reportText reportEntries
-  report-answered top t r z = rw (h .read) (rw (report-is entered read-loaded r top t) at z)
+  report-answered top t r z = rw (h .read) (rw (report-is entered read-tabled r top t) at z)

@@ -1,21 +1,4 @@
 -- Laws of the report, in reading order.
-pub mod Sorting
-pub mod Ranks
-pub mod Counting
-pub mod PathCounting
-pub mod Pairs
-pub mod Finding
-pub mod Segments
-pub mod Names
-pub mod NodeRows
-pub mod Linking
-pub mod Visiting
-pub mod Passing
-pub mod Merges
-pub mod Pieces
-pub mod Listing
-pub mod Lengths
-pub mod Grouping
 pub mod Repeating
 pub mod Ordering
 pub mod Reported

@@ -1,5 +1,5 @@
 -- The tables hold the nodes of the definitions, and the report by the tables is the definitions' report. Assumes nothing.
-use Prim.Native.Nat.{ℕ, zero, suc, _+_, _*_, _-_, _≤_, _<_, min}
+use Prim.Native.Nat.{ℕ, zero, suc, _+_, _-_, _≤_, _<_, min}
 use native.Mathlib.Omega.{arith}
 use mathlib.Core.Bool.{Bool, true, false, cond, _&&_, true≢false}
 use mathlib.Core.List.{List, [], _∷_, _++_, map, map-append}
@@ -7,10 +7,11 @@ use mathlib.Core.Logic.{inl}
 use mathlib.Core.Option.{Option, none, some, Option·elim, Option·getD}
 use mathlib.Core.Path.{_≡_, refl, sym, ap, _∙_}
 use lib.Dec.{ltb}
-use lib.ListN.{length, getD, take, length-append, length-map}
+use lib.ListN.{length, take, length-append, length-map}
 use lib.Seq.{take-at, take-all}
 use borrow.Author.Tests.{ltb-true, ltb-false, ne-eqb}
-use Rattle.gfa_spec.specs.Bytes.{bytes, same, any, keep, nth, join, count}
+use Rattle.gfa_spec.proofs.Answered.{path-some}
+use Rattle.gfa_spec.specs.Bytes.{bytes, same, any, keep, nth, join, Each}
 use Rattle.gfa_spec.specs.Decimal.{largest64}
 use Rattle.gfa_spec.specs.Reading.{Segment, Link, Path, Entry}
 use Rattle.gfa_spec.specs.Records.{segments, links, paths, segmentNumber, sequenceOf, sequenceOrEmpty, isSelfLink, selfLinks}
@@ -18,42 +19,42 @@ use Rattle.gfa_spec.specs.Runs.{bit, overPaths, sameNodePairs, sameStepPairs}
 use Rattle.gfa_spec.specs.Sequences.{sequencePreview}
 use Rattle.gfa_spec.specs.Services.{pathAt as nthPath}
 use Rattle.gfa_spec.proofs.Tests.{by-test, both}
-use Rattle.gfa_spec.proofs.Each.{Each, each-implies}
-use Rattle.work.specs.Rows.{rowsAt}
-use Rattle.work.proofs.Rows.{Kept, only-kept, rows-nth, rows-length}
-use Rattle.gfa.specs.declared.tables.Bases.{Bases}
-use Rattle.gfa.specs.declared.tables.Counts.{Counts}
-use Rattle.gfa.specs.Segments.{segmentAt, segmentsAt}
-use Rattle.gfa.specs.Links.{linksAt}
-use Rattle.gfa.specs.Paths.{pathAt, pathsAt}
-use Rattle.gfa.specs.Passes.{overRows}
+use Rattle.gfa_spec.proofs.Each.{each-implies}
+use Rattle.work.proofs.Rows.{only-kept, rows-length}
+use Rattle.tables.specs.declared.tables.Bases.{Bases}
+use Rattle.tables.specs.declared.tables.Counts.{Counts}
+use Rattle.tables.specs.ByNumber.{segmentNo, pathNo, segmentsOf, linksTo, pathsTo, tablesEnd}
+use Rattle.tables.proofs.ByNumber.{TablesKept, segments-length, paths-length, segments-nth, paths-nth, segments-stand, paths-stand}
+use Rattle.gfa_spec.proofs.Counting.{map-some}
+use Rattle.tables.proofs.Numbers.{none-sequence, some-sequence}
+use Rattle.runs.specs.Counts.{overRows}
 use Rattle.report_spec.specs.Nodes.{eachOnce, nodes, nodeOf, linksOn, orderOf, orientations, repeats, longest as longestOf}
 use Rattle.report_spec.specs.Lines.{bucketLine, report}
-use Rattle.report.specs.Counters.{named}
-use Rattle.report.specs.Table.{nameAt, counterAt, code, isPair, bitsOf, wordOf, linksAmong}
-use Rattle.report.specs.Loaded.{tableOf, Loaded}
-use Rattle.report.specs.Ranking.{orderFrom, keyAt, byLinks, byRank, goesBy, wordAt, numsAt, upTo}
+use Rattle.nodes.specs.Counters.{named}
+use Rattle.nodes.specs.Table.{counterNo, nameNo, namesTo, code, isPair, bitsOf, numberWord, linksAmong}
+use Rattle.tally.specs.Tabled.{Tabled}
+use Rattle.ranks.specs.declared.ranking.Order.the-variants.{Lengths, Ranks}
+use Rattle.ranks.specs.Ranking.{orderFrom, nodeKey, byLinks, byRank, goesBy, wordAt, numsAt, upTo}
 use Rattle.report.specs.Totals.{lengthsOf, ranksOf, Ranked, TotalsIs, totalLines, reportFrom}
 use Rattle.report.specs.declared.totals.Totals.{Totals}
-use Rattle.report.specs.Groups.{buckets}
-use Rattle.report.specs.Report.{hasPair, pairsFrom, previewFrom, pathFrom, nodeAt, listed}
+use Rattle.node_lines.specs.Groups.{buckets}
+use Rattle.node_lines.specs.NodeLines.{hasPair, pairsFrom, previewFrom, pathFrom, nodeIn, listed}
 use Rattle.report_spec.specs.Order.{goesBefore, sortNodes, lengths}
-use Rattle.report.specs.Sorting.{sortBy}
-use Rattle.report.proofs.Sorting.{sort-map}
-use Rattle.report.proofs.Ranks.{sort-nodes}
-use Rattle.report.proofs.Lengths.{byLength, buckets-sorted}
-use Rattle.report.proofs.Merges.{nums-split}
+use Rattle.ranks.specs.Sorting.{sortBy}
+use Rattle.ranks.proofs.Sorting.{sort-map}
+use Rattle.ranks.proofs.Ranks.{sort-nodes}
+use Rattle.node_lines.proofs.Lengths.{byLength, buckets-sorted}
+use Rattle.ranks.proofs.Merges.{nums-split}
 use Rattle.writers.proofs.Joining.{ended-append}
-use Rattle.report.proofs.Ordering.{each-up}
-use Rattle.report.proofs.Pairs.{each, both as bothOf, of-each}
-use Rattle.report.proofs.Segments.{map-some, none-sequence, some-sequence}
-use Rattle.report.proofs.Linking.{loaded-kept, paths-same, segments-same}
+use Rattle.ranks.proofs.Numbering.{each-up}
+use Rattle.nodes.proofs.Pairs.{each, both as bothOf, of-each}
+use Rattle.tally.proofs.Linking.{tabled-stands}
 
 -- ---- a node, word by word
 
 -- the segment's number
-order-word : (o : Option ℕ) → orderFrom (wordOf o) ≡ Option·getD o largest64
-unfolding orderFrom wordOf
+order-word : (o : Option ℕ) → orderFrom (numberWord o) ≡ Option·getD o largest64
+unfolding orderFrom numberWord
 order-word none = refl
 order-word (some k) = rw (ne-eqb (suc k) 0 (λ e. omega arith)) (omega arith)
 
@@ -119,32 +120,27 @@ number-small (s ∷ ss) name k e =
     (λ t. let (j, o, z) = map-some (segmentNumber ss name) k (rw t at e) in omega (arith, number-small ss name j o))
 
 -- the preview of the segment, by its number
-module _ (text w : List ℕ) (base count : ℕ) (name : List ℕ) where
-  preview-word : (o : Option ℕ) → segmentNumber (segmentsAt text w base count) name ≡ o → previewFrom text w base (wordOf o) ≡ sequencePreview (sequenceOrEmpty (segmentsAt text w base count) name)
-  unfolding wordOf previewFrom sequenceOrEmpty segmentsAt
-  preview-word none e = rw (none-sequence (segmentsAt text w base count) name e) (unfold sequencePreview in refl)
-  preview-word (some k) e =
-      let d = segmentAt text w base in
-      let l : k < count = omega (arith, number-small (segmentsAt text w base count) name k e, rows-length (segmentAt text) 6 w base count) in
-      let z : suc k - 1 ≡ k = omega arith in
-      let q : sequenceOf (segmentsAt text w base count) name ≡ some (segmentAt text w (base + 6 * k) .sequence) = some-sequence (segmentsAt text w base count) name k d e ∙ ap (λ s. some (s .sequence)) (rows-nth (segmentAt text) 6 w base count k d l) in
-      rw (ne-eqb (suc k) 0 (λ e. omega arith), z, q)
-
--- path k of a list
-nth-path : (k : ℕ) (ps : List Path) (d : Path) → k < length ps → nthPath k ps ≡ some (nth k ps d)
-unfolding nthPath nth
-nth-path k [] d h = absurd (omega arith)
-nth-path zero (p ∷ ps) d h = refl
-nth-path (suc k) (p ∷ ps) d h = nth-path k ps d (omega arith)
+preview-word : (text w : List ℕ) (b : Bases) (n : Counts) (name : List ℕ) (o : Option ℕ) → segmentNumber (segmentsOf text w b n) name ≡ o
+    → previewFrom text w b (numberWord o) ≡ sequencePreview (sequenceOrEmpty (segmentsOf text w b n) name)
+unfolding numberWord previewFrom sequenceOrEmpty
+preview-word text w b n name none e = rw (none-sequence (segmentsOf text w b n) name e) (unfold sequencePreview in refl)
+preview-word text w b n name (some k) e =
+    let ss = segmentsOf text w b n in
+    let d = segmentNo text w b 0 in
+    let l : k < n .segs = omega (arith, number-small ss name k e, segments-length text w b (n .segs)) in
+    let z : suc k - 1 ≡ k = omega arith in
+    let q : sequenceOf ss name ≡ some (segmentNo text w b k .sequence) = some-sequence ss name k d e ∙ ap (λ s. some (s .sequence)) (segments-nth text w b (n .segs) k d l) in
+    rw (ne-eqb (suc k) 0 (λ e. omega arith), z, q)
 
 -- the name of a path, by its number
-path-word : (text w : List ℕ) (steps base count number : ℕ) → number ≤ count → pathFrom text w steps base number ≡ named number (pathsAt text steps w base count)
-unfolding pathFrom named pathsAt Option·elim
-path-word text w steps base count zero h = refl
-path-word text w steps base count (suc k) h =
-    let d = pathAt text steps w base in
+path-word : (text w : List ℕ) (b : Bases) (n : Counts) (number : ℕ) → number ≤ n .paths → pathFrom text w b number ≡ named number (pathsTo text w b (n .paths))
+unfolding pathFrom named Option·elim
+path-word text w b n zero h = refl
+path-word text w b n (suc k) h =
+    let ps = pathsTo text w b (n .paths) in
+    let d = pathNo text w b 0 in
     let z : suc k - 1 ≡ k = omega arith in
-    let q : nthPath k (pathsAt text steps w base count) ≡ some (pathAt text steps w (base + 5 * k)) = nth-path k (pathsAt text steps w base count) d (omega (arith, rows-length (pathAt text steps) 5 w base count)) ∙ ap some (rows-nth (pathAt text steps) 5 w base count k d (omega arith)) in
+    let q : nthPath k ps ≡ some (pathNo text w b k) = path-some k ps d (omega (arith, paths-length text w b (n .paths))) ∙ ap some (paths-nth text w b (n .paths) k d (omega arith)) in
     rw (ne-eqb (suc k) 0 (λ e. omega arith), z, q)
 
 -- ---- lists of numbers
@@ -157,10 +153,10 @@ map-map : {A B C : Type 0} (f : B → C) (g : A → B) (xs : List A) → map f (
 map-map f g [] = refl
 map-map f g (x ∷ xs) = rw (map-map f g xs)
 
-rows-up : {A : Type 0} (row : List ℕ → ℕ → A) (width : ℕ) (w : List ℕ) (base n : ℕ) → rowsAt row width w base n ≡ map (λ i. row w (base + width * i)) (upTo n)
-unfolding rowsAt upTo
-rows-up row width w base zero = refl
-rows-up row width w base (suc n) = rw (rows-up row width w base n) (sym (map-append (λ i. row w (base + width * i)) (upTo n) (n ∷ [])))
+names-up : (text w : List ℕ) (table n : ℕ) → namesTo text w table n ≡ map (nameNo text w table) (upTo n)
+unfolding namesTo upTo
+names-up text w table zero = refl
+names-up text w table (suc n) = rw (names-up text w table n) (sym (map-append (nameNo text w table) (upTo n) (n ∷ [])))
 
 length-up : (n : ℕ) → length (upTo n) ≡ n
 unfolding upTo
@@ -171,12 +167,14 @@ length-up (suc n) = rw (length-append, length-up n) (omega arith)
 taken : {A : Type 0} (f : ℕ → A) (w : List ℕ) (at m top : ℕ) → map f (numsAt w at (min top m)) ≡ take top (map f (numsAt w at m))
 taken f w at m top =
     let e : m ≡ min top m + (m - min top m) = omega arith in
-    let s : map f (numsAt w at m) ≡ map f (numsAt w at (min top m)) ++ map f (numsAt w (at + min top m) (m - min top m)) = ap (λ k. map f (numsAt w at k)) e ∙ ap (map f) (nums-split w at (min top m) (m - min top m)) ∙ map-append f (numsAt w at (min top m)) (numsAt w (at + min top m) (m - min top m)) in
-    let l : length (map f (numsAt w at (min top m))) ≡ min top m = length-map (numsAt w at (min top m)) f ∙ (unfold numsAt in rows-length wordAt 1 w at (min top m)) in
+    let xs = numsAt w at (min top m) in
+    let ys = numsAt w (at + min top m) (m - min top m) in
+    let s : map f (numsAt w at m) ≡ map f xs ++ map f ys = ap (λ k. map f (numsAt w at k)) e ∙ ap (map f) (nums-split w at (min top m) (m - min top m)) ∙ map-append f xs ys in
+    let l : length (map f xs) ≡ min top m = length-map xs f ∙ (unfold numsAt in rows-length wordAt 1 w at (min top m)) in
     by-test (ltb top m)
     (λ b.
-    let h : length (map f (numsAt w at (min top m))) ≡ top = omega (arith, ltb-true top m b, l) in
-    rw s (sym (take-at (map f (numsAt w at (min top m))) (map f (numsAt w (at + min top m) (m - min top m))) top h)))
+    let h : length (map f xs) ≡ top = omega (arith, ltb-true top m b, l) in
+    rw s (sym (take-at (map f xs) (map f ys) top h)))
     (λ b.
     let z : min top m ≡ m = omega (arith, ltb-false top m b) in
     let k : length (map f (numsAt w at m)) ≡ m = length-map (numsAt w at m) f ∙ (unfold numsAt in rows-length wordAt 1 w at m) in
@@ -185,46 +183,45 @@ taken f w at m top =
 -- ---- all nodes
 
 -- What the text's entries are, by its tables.
-pub record Entered (es : List Entry) (text w : List ℕ) (b : Bases) (n : Counts) : Type 0 where
-  pub of-segments : segments es ≡ segmentsAt text w (b .segs) (n .segs)
-  pub of-links : links es ≡ linksAt text w (b .links) (n .links)
-  pub of-paths : paths es ≡ pathsAt text (b .steps) w (b .paths) (n .paths)
+pub record EntriesAre (es : List Entry) (text w : List ℕ) (b : Bases) (n : Counts) : Type 0 where
+  pub of-segments : segments es ≡ segmentsOf text w b n
+  pub of-links : links es ≡ linksTo text w b (n .links)
+  pub of-paths : paths es ≡ pathsTo text w b (n .paths)
 
-module _ {es : List Entry} {text w w' : List ℕ} {b : Bases} {n : Counts} {m : ℕ} (x : Entered es text w b n) (l : Loaded text w b n) (r : Ranked text w w' b n m) where
-  keeps-tables : Kept 0 (tableOf b n) w w'
-  keeps-tables = only-kept 0 (tableOf b n) (r .only) (inl (omega arith), tt)
+module _ {es : List Entry} {text w w' : List ℕ} {b : Bases} {n : Counts} {m : ℕ} (x : EntriesAre es text w b n) (l : Tabled text w b n) (r : Ranked text w w' b n m) where
+  keeps-tables : TablesKept b n w w'
+  keeps-tables = only-kept (b .lines) (tablesEnd b n) (r .only) (inl (omega arith), tt)
 
-  pub ranked-loaded : Loaded text w' b n
-  ranked-loaded = loaded-kept l (r .long) keeps-tables
+  pub ranked-tabled : Tabled text w' b n
+  ranked-tabled = tabled-stands l (r .long) keeps-tables
 
   module _ (i : ℕ) (h : i < m) where
-    node-row : nodeAt text b w' (tableOf b n + 14 * i) ≡ nodeOf es (nameAt text w' (tableOf b n + 14 * i))
-    unfolding nodeAt nodeOf counterAt orderOf linksOn linksAmong
+    node-row : nodeIn text w' b n i ≡ nodeOf es (nameNo text w' (tablesEnd b n) i)
+    unfolding nodeIn nodeOf orderOf linksOn linksAmong
     node-row =
-        let at = tableOf b n + 14 * i in
-        let name = nameAt text w' at in
-        let q = r .table .rows .row i h in
-        let c = r .counts .row i h .counts in
-        let ss = segmentsAt text w (b .segs) (n .segs) in
-        let ps = pathsAt text (b .steps) w (b .paths) (n .paths) in
-        let psame = paths-same l (r .long) keeps-tables in
-        let ssame = segments-same l (r .long) keeps-tables in
-        let pre : previewFrom text w' (b .segs) (wordOf (segmentNumber ss name)) ≡ sequencePreview (sequenceOrEmpty ss name) = rw ssame at (preview-word text w' (b .segs) (n .segs) name (segmentNumber (segmentsAt text w' (b .segs) (n .segs)) name) refl) in
-        let many : length ps ≡ n .paths = unfold pathsAt in rows-length (pathAt text (b .steps)) 5 w (b .paths) (n .paths) in
-        let pat : pathFrom text w' (b .steps) (b .paths) (getD w' (at + 13) 0) ≡ named (getD w' (at + 13) 0) ps = rw psame at (path-word text w' (b .steps) (b .paths) (n .paths) (getD w' (at + 13) 0) (omega (arith, c .known, many))) in
+        let name = nameNo text w' (tablesEnd b n) i in
+        let first = counterNo w' (tablesEnd b n) i .first in
+        let q = r .table .rows i h in
+        let c = r .counts .row i h in
+        let ss = segmentsOf text w b n in
+        let ls = linksTo text w b (n .links) in
+        let ps = pathsTo text w b (n .paths) in
+        let before = preview-word text w' b n name (segmentNumber (segmentsOf text w' b n) name) refl in
+        let preview : previewFrom text w' b (numberWord (segmentNumber ss name)) ≡ sequencePreview (sequenceOrEmpty ss name) = rw (segments-stand (l .readable) keeps-tables) at before in
+        let path : pathFrom text w' b first ≡ named first ps = rw (paths-stand (l .readable) keeps-tables) at (path-word text w' b n first (omega (arith, c .known, paths-length text w b (n .paths)))) in
         rw (
           x .of-segments,
           x .of-links,
           x .of-paths,
-          pat,
+          path,
           c .first,
           q .number,
           order-word (segmentNumber ss name),
-          pre,
+          preview,
           q .long,
           q .links,
           q .bits,
-          pairs-word (linksAmong (linksAt text w (b .links) (n .links)) name),
+          pairs-word (linksAmong ls name),
           c .visits,
           c .paths,
           c .adjacent,
@@ -234,45 +231,45 @@ module _ {es : List Entry} {text w w' : List ℕ} {b : Bases} {n : Counts} {m : 
         )
 
   -- The rows are the definitions' nodes.
-  node-list : map (λ i. nodeAt text b w' (tableOf b n + 14 * i)) (upTo m) ≡ map (nodeOf es) (nodes es)
+  node-list : map (nodeIn text w' b n) (upTo m) ≡ map (nodeOf es) (nodes es)
   unfolding nodes
   node-list =
-      map-each (λ i. nodeAt text b w' (tableOf b n + 14 * i)) (λ i. nodeOf es (nameAt text w' (tableOf b n + 14 * i))) (upTo m) (each-implies (λ i h. node-row i h) (upTo m) (each-up m))
-      ∙ sym (map-map (nodeOf es) (λ i. nameAt text w' (tableOf b n + 14 * i)) (upTo m))
+      map-each (nodeIn text w' b n) (λ i. nodeOf es (nameNo text w' (tablesEnd b n) i)) (upTo m) (each-implies (λ i h. node-row i h) (upTo m) (each-up m))
+      ∙ sym (map-map (nodeOf es) (nameNo text w' (tablesEnd b n)) (upTo m))
       ∙ ap (map (nodeOf es)) names
     where
-      names : map (λ i. nameAt text w' (tableOf b n + 14 * i)) (upTo m) ≡ eachOnce [] (map (λ l. l .from) (keep isSelfLink (links es)))
-      names = rw (x .of-links) (sym (rows-up (nameAt text) 14 w' (tableOf b n) m) ∙ r .table .names)
+      names : map (nameNo text w' (tablesEnd b n)) (upTo m) ≡ eachOnce [] (map (λ l. l .from) (keep isSelfLink (links es)))
+      names = rw (x .of-links) (sym (names-up text w' (tablesEnd b n) m) ∙ r .table .names)
 
   -- in the two orders
-  pub by-length : listed text b n w' (lengthsOf b n) m ≡ sortBy byLength (map (nodeOf es) (nodes es))
+  pub by-length : listed text w' b n (lengthsOf b n) m ≡ sortBy byLength (map (nodeOf es) (nodes es))
   unfolding listed
-  by-length = ap (map (λ i. nodeAt text b w' (tableOf b n + 14 * i))) (r .by-length) ∙ lengths-keys ∙ ap (sortBy byLength) node-list
+  by-length = ap (map (nodeIn text w' b n)) (r .by-length) ∙ lengths-keys ∙ ap (sortBy byLength) node-list
     where
-      lengths-keys : map (λ i. nodeAt text b w' (tableOf b n + 14 * i)) (sortBy (λ i j. goesBy true (keyAt w' (tableOf b n + 14 * i)) (keyAt w' (tableOf b n + 14 * j))) (upTo m)) ≡ sortBy byLength (map (λ i. nodeAt text b w' (tableOf b n + 14 * i)) (upTo m))
-      lengths-keys = unfold byLength goesBy keyAt nodeAt in sym (sort-map (λ i. nodeAt text b w' (tableOf b n + 14 * i)) byLength (upTo m))
+      lengths-keys : map (nodeIn text w' b n) (sortBy (λ i j. goesBy Lengths (nodeKey w' (tablesEnd b n) i) (nodeKey w' (tablesEnd b n) j)) (upTo m)) ≡ sortBy byLength (map (nodeIn text w' b n) (upTo m))
+      lengths-keys = unfold byLength goesBy nodeKey nodeIn in sym (sort-map (nodeIn text w' b n) byLength (upTo m))
 
-  by-rank : listed text b n w' (ranksOf b n) m ≡ sortNodes (map (nodeOf es) (nodes es))
+  by-rank : listed text w' b n (ranksOf b n) m ≡ sortNodes (map (nodeOf es) (nodes es))
   unfolding listed
-  by-rank = ap (map (λ i. nodeAt text b w' (tableOf b n + 14 * i))) (r .by-rank) ∙ ranks-keys ∙ ap (sortBy goesBefore) node-list ∙ sym (sort-nodes (map (nodeOf es) (nodes es)))
+  by-rank = ap (map (nodeIn text w' b n)) (r .by-rank) ∙ ranks-keys ∙ ap (sortBy goesBefore) node-list ∙ sym (sort-nodes (map (nodeOf es) (nodes es)))
     where
-      ranks-keys : map (λ i. nodeAt text b w' (tableOf b n + 14 * i)) (sortBy (λ i j. goesBy false (keyAt w' (tableOf b n + 14 * i)) (keyAt w' (tableOf b n + 14 * j))) (upTo m)) ≡ sortBy goesBefore (map (λ i. nodeAt text b w' (tableOf b n + 14 * i)) (upTo m))
-      ranks-keys = unfold goesBefore goesBy byRank byLinks keyAt nodeAt in sym (sort-map (λ i. nodeAt text b w' (tableOf b n + 14 * i)) goesBefore (upTo m))
+      ranks-keys : map (nodeIn text w' b n) (sortBy (λ i j. goesBy Ranks (nodeKey w' (tablesEnd b n) i) (nodeKey w' (tablesEnd b n) j)) (upTo m)) ≡ sortBy goesBefore (map (nodeIn text w' b n) (upTo m))
+      ranks-keys = unfold goesBefore goesBy byRank byLinks nodeKey nodeIn in sym (sort-map (nodeIn text w' b n) goesBefore (upTo m))
 
   -- there are m of them
   how-many : length (map (nodeOf es) (nodes es)) ≡ m
-  how-many = ap length (sym node-list) ∙ length-map (upTo m) (λ i. nodeAt text b w' (tableOf b n + 14 * i)) ∙ length-up m
+  how-many = ap length (sym node-list) ∙ length-map (upTo m) (nodeIn text w' b n) ∙ length-up m
 
   -- the first `top` of them
-  first-ranks : (top : ℕ) → listed text b n w' (ranksOf b n) (min top m) ≡ take top (sortNodes (map (nodeOf es) (nodes es)))
+  first-ranks : (top : ℕ) → listed text w' b n (ranksOf b n) (min top m) ≡ take top (sortNodes (map (nodeOf es) (nodes es)))
   first-ranks top = cut ∙ ap (take top) by-rank
     where
-      cut : listed text b n w' (ranksOf b n) (min top m) ≡ take top (listed text b n w' (ranksOf b n) m)
-      cut = unfold listed in taken (λ i. nodeAt text b w' (tableOf b n + 14 * i)) w' (ranksOf b n) m top
+      cut : listed text w' b n (ranksOf b n) (min top m) ≡ take top (listed text w' b n (ranksOf b n) m)
+      cut = unfold listed in taken (nodeIn text w' b n) w' (ranksOf b n) m top
 
   -- The report by the tables is the definitions' report.
-  pub report-is : {t : Totals} (top : ℕ) → TotalsIs text w b n t → reportFrom text b n w' m t top ≡ report es top
-  unfolding reportFrom totalLines report
+  pub report-is : {t : Totals} (top : ℕ) → TotalsIs text w b n t → reportFrom text w' b n m t top ≡ report es top
+  unfolding reportFrom report
   report-is {t} top q =
       let ns = map (nodeOf es) (nodes es) in
       let a : t .links ≡ selfLinks es = unfold selfLinks in rw (x .of-links) (q .links) in
@@ -280,5 +277,5 @@ module _ {es : List Entry} {text w w' : List ℕ} {b : Bases} {n : Counts} {m : 
       let d : t .steps ≡ sameStepPairs es = unfold sameStepPairs overPaths in rw (x .of-paths) (unfold overRows in q .steps) in
       let e : t .runs ≡ length (join (map repeats (paths es))) = rw (x .of-paths) (q .runs) in
       let f : t .longest ≡ longestOf (join (map repeats (paths es))) = rw (x .of-paths) (q .longest) in
-      let g : buckets (listed text b n w' (lengthsOf b n) m) ≡ map (bucketLine ns) (lengths ns) = ap buckets by-length ∙ buckets-sorted ns ∙ (unfold buckets in refl) in
-      rw (ended-append, ended-append, how-many, ← a, ← c, ← d, ← e, ← f, ← g, first-ranks top)
+      let g : buckets (listed text w' b n (lengthsOf b n) m) ≡ map (bucketLine ns) (lengths ns) = ap buckets by-length ∙ buckets-sorted ns ∙ (unfold buckets in refl) in
+      rw (ended-append, ended-append, how-many, ← a, ← c, ← d, ← e, ← f, ← g, first-ranks top) (unfold totalLines in refl)

@@ -1,14 +1,14 @@
 // The service that reports (document 01, "The four services").
 ghost use lib.ListN.{length};
-ghost use Rattle.gfa.specs.Served.{Answered, Served};
+ghost use Rattle.reader.specs.Served.{Answered, Served};
 ghost use Rattle.report_spec.specs.Services.{reportText};
 use crate::summary::write_report;
 use crate::totals::rank_nodes;
 use crate::totals::totals_of;
-use gfa::input::Answer;
-use gfa::input::Input;
-use gfa::input::parse_gfa;
-use gfa::services::refused_with;
+use reader::answers::Answer;
+use reader::input::Input;
+use reader::input::parse_gfa;
+use reader::input::refused_with;
 use work::work::clear;
 
 // The answer: refusals 1 to 17, then 22. The work area holds the tables.

@@ -1,19 +1,19 @@
 // The whole report, written at the front of `out` as far as there is room.
-ghost use mathlib.Core.Path.{_≡_};
-ghost use Prim.Native.Nat.{_+_, min};
 ghost use lib.ListN.{length};
 ghost use Rattle.gfa_spec.specs.Bytes.{ended};
 ghost use Rattle.gfa_spec.specs.Calls.{fitted};
-ghost use Rattle.gfa.specs.Served.{Answered};
+ghost use Rattle.reader.specs.Served.{Answered};
 ghost use Rattle.writers.specs.Writers.{Wrote};
-ghost use Rattle.report.specs.Totals.{totalLines, reportFrom, Writable};
-use crate::buckets::put_buckets;
-use crate::output::put_nodes;
+ghost use Rattle.report.specs.Totals.{totalLines, reportFrom, Reportable};
 use crate::totals::Totals;
-use gfa::input::Answer;
-use gfa::services::plain;
-use gfa::tables::Bases;
-use gfa::tables::Counts;
+use crate::totals::areas_of;
+use node_lines::buckets::put_buckets;
+use node_lines::output::put_nodes;
+use reader::answers::Answer;
+use reader::answers::plain;
+use tables::tables::Bases;
+use tables::tables::Counts;
+use writers::bytes::least;
 use writers::pieces::put_number_line;
 
 // The first six lines.
@@ -40,16 +40,6 @@ pub fn put_totals(out: &mut [u8], at: usize, limit: usize, t: Totals, m: usize) 
     put_number_line(out, five, limit, b"max_repeat_run_len", t.longest as u64)
 }
 
-// The smaller of two numbers.
-fn least(a: usize, b: usize) -> usize
-    ensures { λ r. ⌜ r ≡ min a b ⌝ }
-{
-    if a <= b {
-        return a;
-    }
-    b
-}
-
 // The report with the first `top` of `m` nodes.
 pub fn put_report(
     out: &mut [u8],
@@ -62,15 +52,13 @@ pub fn put_report(
     m: usize,
     top: usize,
 ) -> usize
-    requires { ⌜ Writable (now text) (now work) b n m ⌝ }
-    ensures { λ r. ⌜ Wrote limit (now (out .entry)) 0 (reportFrom (now (text .entry)) b n (now (work .entry)) m t top) (now (out .exit)) r ⌝ }
+    requires { ⌜ Reportable (now text) (now work) b n m ⌝ }
+    ensures { λ r. ⌜ Wrote limit (now (out .entry)) 0 (reportFrom (now (text .entry)) (now (work .entry)) b n m t top) (now (out .exit)) r ⌝ }
 {
-    let table = b.steps + 3 * n.steps;
-    let lengths = table + 14 * n.links;
-    let ranks = table + 15 * n.links;
+    let a = areas_of(work, b, n);
     let first = put_totals(out, 0, limit, t, m);
-    let second = put_buckets(out, first, limit, work, table, lengths, m);
-    put_nodes(out, second, limit, text, work, b, n, ranks, least(top, m))
+    let second = put_buckets(out, first, limit, work, a.table, a.lengths, m);
+    put_nodes(out, second, limit, text, work, b, n, a.ranks, least(top, m))
 }
 
 // Measures the report on an empty part of the buffer, and writes it where it fits.
@@ -84,9 +72,9 @@ pub fn write_report(
     m: usize,
     top: usize,
 ) -> Answer
-    requires { ⌜ Writable (now text) (now work) b n m ⌝ }
+    requires { ⌜ Reportable (now text) (now work) b n m ⌝ }
     ensures { λ r. ⌜ Answered (now (out .entry)) (now (out .exit)) r
-        (fitted (length (now (out .entry))) (reportFrom (now (text .entry)) b n (now (work .entry)) m t top)) ⌝ }
+        (fitted (length (now (out .entry))) (reportFrom (now (text .entry)) (now (work .entry)) b n m t top)) ⌝ }
 {
     let room = out.len();
     let limit = room + 1;

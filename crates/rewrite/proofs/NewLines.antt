@@ -1,43 +1,52 @@
--- The lines of new segments and of added links, piece by piece, and what their rows are relied on for. Assumes nothing.
-use Prim.Native.Nat.{ℕ, _+_, _*_, _≤_, _<_}
+-- The lines of new segments and of added links, piece by piece. Assumes nothing.
+use Prim.Native.Nat.{ℕ, _+_, _*_, _<_}
 use native.Mathlib.Omega.{arith}
 use mathlib.Core.Bool.{true}
-use mathlib.Core.List.{List, [], _∷_, _++_, append-assoc}
+use mathlib.Core.List.{List, [], _∷_, append-assoc}
 use mathlib.Core.Path.{_≡_, refl}
-use lib.ListN.{length, getD}
-use Rattle.gfa_spec.specs.Bytes.{bytes, nth, part, repeat, joinWith, tabbed, endLine}
+use lib.ListN.{getD}
+use Rattle.gfa_spec.specs.Bytes.{bytes, nth, repeat, joinWith, tabbed, endLine}
 use Rattle.gfa_spec.specs.Reading.{isOrientation}
 use Rattle.gfa_spec.proofs.Steps.{by-orientation}
 use Rattle.normalize_spec.specs.Writing.{segmentLine, linkLine}
 use Rattle.work.specs.Rows.{EachRow}
-use Rattle.gfa.specs.declared.tables.Bases.{Bases}
-use Rattle.gfa.specs.declared.tables.Counts.{Counts}
-use Rattle.gfa.specs.Segments.{segmentAt}
+use Rattle.writers.specs.Writers.{Wrote}
+use Rattle.writers.proofs.Writing.{being, _▷_}
+use Rattle.tables.specs.declared.tables.Bases.{Bases}
+use Rattle.tables.specs.declared.tables.Counts.{Counts}
+use Rattle.tables.specs.declared.rows.SegmentWords.{SegmentWords}
+use Rattle.tables.specs.ByNumber.{bytesIn, SegmentIs}
 use Rattle.normalize_tables.specs.declared.layout.Layout.{Layout}
 use Rattle.normalize_tables.specs.declared.layout.Made.{Made}
-use Rattle.normalize_tables.specs.News.{newAt, newStepAt, keyAt, KeyRow}
-use Rattle.new_ids.specs.Ids.{Named}
-use Rattle.rewrite.specs.Pieces.{newPiece, keyPiece}
-use Rattle.rewrite.specs.Rewriting.{Stepped, PathsThere}
+use Rattle.normalize_tables.specs.declared.rows.NewSegmentWords.{NewSegmentWords}
+use Rattle.normalize_tables.specs.declared.rows.NewStepWords.{NewStepWords}
+use Rattle.normalize_tables.specs.Layout.{Source}
+use Rattle.normalize_tables.specs.News.{newAt, KeyRow}
+use Rattle.normalize_tables.specs.NewByNumber.{newStepNo, NewSegmentIs, NewStepIs}
+use Rattle.normalize_tables.specs.Rewritten.{NewRows}
+use Rattle.rewrite.specs.Pieces.{newPiece, stepEnd, pairLine, addedPiece}
+use Rattle.rewrite.specs.Rewriting.{Rewritable}
+
+-- ---- what is asked
+
+pub rewritable : {text work : List ℕ} {b : Bases} {n : Counts} {g : Layout} {m : Made} → Source text work b n g → NewRows work n g m → Rewritable text work b n g m
+rewritable s r =
+    let p = s .placed in
+    record { source = s; rows = r; named = record { readable = s .readable; room = omega arith; few = omega arith; rows = r .segs } }
 
 -- ---- new segments
 
-module _ (text work : List ℕ) (b : Bases) (g : Layout) (first j : ℕ) where
-  -- the sequence: the unit's, repeated
-  pub new-sequence : {unit count start size : ℕ} → unit ≡ getD work (g .segs + 4 * j) 0 → count ≡ getD work (g .segs + 4 * j + 1) 0
-      → start ≡ getD work (b .segs + 6 * unit + 4) 0 → size ≡ getD work (b .segs + 6 * unit + 5) 0 → repeat count (part start size text) ≡ newAt text b g first work j .sequence
-  unfolding newAt segmentAt
-  new-sequence e f p q = rw (p, q, f, e)
+module _ (text work : List ℕ) (b : Bases) (g : Layout) (first j : ℕ) {limit at r : ℕ} {out out' : List ℕ} where
+  -- the sequence, behind a tab (9): the unit's, repeated
+  pub sequence-written : {n : Counts} {w : NewSegmentWords} {u : SegmentWords} {o : List ℕ} {x : ℕ} → NewSegmentIs text work b n g first j w → SegmentIs text work b (w .unit .0) u
+      → Wrote limit out at (9 ∷ []) o x → Wrote limit o x (repeat (w .count) (bytesIn text (u .sequence))) out' r → Wrote limit out at (9 ∷ newAt text b g first work j .sequence) out' r
+  sequence-written q s tab v = rw (q .new, s .segment) (tab ▷ v)
 
-  -- the line
-  pub new-line : ((bytes "S" ++ (9 ∷ [])) ++ newAt text b g first work j .id ++ (9 ∷ [])) ++ newAt text b g first work j .sequence ++ (10 ∷ []) ≡ newPiece text b g first work j
+  -- the line: S (83), a tab, the ID, a tab, the sequence, a line feed (10)
+  pub new-written : {o p q : List ℕ} {x y z : ℕ} → Wrote limit out at (83 ∷ 9 ∷ []) o x → Wrote limit o x (newAt text b g first work j .id) p y
+      → Wrote limit p y (9 ∷ newAt text b g first work j .sequence) q z → Wrote limit q z (10 ∷ []) out' r → Wrote limit out at (newPiece text work b g first j) out' r
   unfolding newPiece segmentLine tabbed joinWith endLine bytes
-  new-line = simp append-assoc
-
--- the unit's sequence is in the text
-pub sequence-inside : {text work : List ℕ} {b : Bases} {n : Counts} {g : Layout} {q j : ℕ} → Named text work b n g q → j < q
-    → getD work (b .segs + 6 * getD work (g .segs + 4 * j) 0 + 4) 0 + getD work (b .segs + 6 * getD work (g .segs + 4 * j) 0 + 5) 0 ≤ length text
-sequence-inside {work = work} {g = g} {j = j} h l = h .readable .sound .segs .row (getD work (g .segs + 4 * j) 0) (h .rows .row j l .unit) .sequence
+  new-written sort id sequence end = being (simp append-assoc) (sort ▷ id ▷ sequence ▷ end)
 
 -- ---- added links
 
@@ -45,46 +54,24 @@ sequence-inside {work = work} {g = g} {j = j} h l = h .readable .sound .segs .ro
 pub orientation-minus : (o : ℕ) → isOrientation o ≡ true → (o ≡ 43 → ⊥) → 45 ≡ o
 orientation-minus o h k = by-orientation (λ o. (o ≡ 43 → ⊥) → 45 ≡ o) (λ d. absurd (d refl)) (λ d. refl) o h k
 
--- a link's line: its two ends
-link-pieces : (x y : List ℕ) (o p : ℕ) → (bytes "L" ++ (9 ∷ [])) ++ (x ++ (9 ∷ o ∷ 9 ∷ [])) ++ (y ++ (9 ∷ p ∷ 9 ∷ [])) ++ (bytes "0M" ++ (10 ∷ []))
-    ≡ endLine (tabbed (bytes "L" ∷ x ∷ (o ∷ []) ∷ y ∷ (p ∷ []) ∷ bytes "0M" ∷ []))
-unfolding tabbed joinWith endLine bytes
-link-pieces x y o p = simp append-assoc
+module _ (names : List (List ℕ)) (work : List ℕ) (g : Layout) (k : ℕ) {limit at r : ℕ} {out out' : List ℕ} where
+  -- one end
+  pub end-written : {n : Counts} {m : Made} {s : NewStepWords} {sign x : ℕ} {o : List ℕ} → NewStepIs work n g m k s → sign ≡ s .mark → Wrote limit out at (nth (s .node) names []) o x
+      → Wrote limit o x (9 ∷ sign ∷ 9 ∷ []) out' r → Wrote limit out at (stepEnd (newStepNo names work g k)) out' r
+  unfolding stepEnd
+  end-written q e name tail = rw (q .step names, ← e) (name ▷ tail)
 
--- the line of an added link
-pub key-line : (names : List (List ℕ)) (steps : ℕ) (work : List ℕ) (at : ℕ) {k : ℕ} → k ≡ getD work at 0
-    → (bytes "L" ++ (9 ∷ []))
-    ++ (nth (getD work (steps + 2 * k) 0) names [] ++ (9 ∷ getD work (steps + 2 * k + 1) 0 ∷ 9 ∷ []))
-    ++ (nth (getD work (steps + 2 * (k + 1)) 0) names [] ++ (9 ∷ getD work (steps + 2 * (k + 1) + 1) 0 ∷ 9 ∷ []))
-    ++ (bytes "0M" ++ (10 ∷ [])) ≡ keyPiece names steps work at
-unfolding keyPiece linkLine keyAt newStepAt
-key-line names steps work at e = rw e (link-pieces _ _ _ _)
+  -- the line: L (76), a tab, the two ends, and 0M (48, 77)
+  pub pair-written : {o p q : List ℕ} {x y z : ℕ} → Wrote limit out at (76 ∷ 9 ∷ []) o x → Wrote limit o x (stepEnd (newStepNo names work g k)) p y
+      → Wrote limit p y (stepEnd (newStepNo names work g (k + 1))) q z → Wrote limit q z (48 ∷ 77 ∷ 10 ∷ []) out' r → Wrote limit out at (pairLine names work g k) out' r
+  unfolding pairLine stepEnd linkLine tabbed joinWith endLine bytes
+  pair-written sort first second end = being (simp append-assoc) (sort ▷ first ▷ second ▷ end)
 
--- ---- rows
+  -- of added link i
+  pub added-written : (i : ℕ) → k ≡ getD work (g .added + i) 0 → Wrote limit out at (pairLine names work g k) out' r → Wrote limit out at (addedPiece names work g i) out' r
+  unfolding addedPiece
+  added-written i e v = rw (← e) v
 
-module _ {text work : List ℕ} {b : Bases} {n : Counts} {g : Layout} {m : Made} where
-  -- a new step is one of a node
-  pub step-room : Stepped text work b n g m → (k : ℕ) → k < m .steps → g .steps + 2 * k + 2 ≤ length work
-  step-room h k l = omega (arith, h .room)
-
-  -- the new steps of the tables can be written
-  pub paths-stepped : PathsThere text work b n g m → Stepped text work b n g m
-  paths-stepped h =
-      let p = h .source .placed in
-      let r = h .rows in
-      record {
-        named = record { readable = h .source .readable; room = omega arith; few = omega arith; rows = r .segs };
-        room = omega arith;
-        steps = r .steps;
-      }
-
--- an added link's word
-pub key-row : {work : List ℕ} {base count i : ℕ} {steps : ℕ} → EachRow (KeyRow steps) 1 work base count → i < count → KeyRow steps work (base + i)
-key-row {work} {base} {count} {i} {steps} e l = let place : base + i ≡ base + 1 * i = omega arith in rw place (e .row i l)
-
--- the words of the added links are in the work area
-pub added-room : {text work : List ℕ} {b : Bases} {n : Counts} {g : Layout} {m : Made} {extra : ℕ} → PathsThere text work b n g m → extra ≤ m .steps → g .added + extra ≤ length work
-added-room h l =
-    let p = h .source .placed in
-    let r = h .rows in
-    omega arith
+-- its step, and the one behind it, are new steps
+pub added-step : {work : List ℕ} (g : Layout) (i : ℕ) {steps extra k : ℕ} → EachRow (KeyRow steps) 1 work (g .added) extra → i < extra → k ≡ getD work (g .added + i) 0 → k + 1 < steps
+added-step g i s h e = let z : g .added + 1 * i ≡ g .added + i = omega arith in rw e (rw z at (s .row i h .step))

@@ -1,5 +1,5 @@
 -- A path's line with another field of steps: the line before that field, the field, and what stands behind it. Assumes nothing.
-use Prim.Native.Nat.{ℕ, zero, suc, _+_, _*_, _-_, _≤_, _<_}
+use Prim.Native.Nat.{ℕ, zero, suc, _+_, _-_, _≤_, _<_}
 use native.Mathlib.Omega.{arith}
 use mathlib.Core.Bool.{false}
 use mathlib.Core.List.{List, [], _∷_, _++_, map, append-nil, append-assoc}
@@ -13,33 +13,37 @@ use Rattle.gfa_spec.specs.Reading.{Kind, P, W, fields, nowhere}
 use Rattle.gfa_spec.proofs.Located.{drop-front}
 use Rattle.gfa_spec.proofs.Parts.{length-part, part-front}
 use Rattle.gfa_spec.proofs.Tests.{by-test}
-use Rattle.gfa_spec.proofs.Splitting.{split-ind, join-split}
+use Rattle.gfa_spec.proofs.Splitting.{split-ind, join-split, joinWith-cons}
 use Rattle.writers.proofs.Joining.{joined-first}
 use Rattle.normalize_spec.specs.Folding.{NewStep}
 use Rattle.normalize_spec.specs.Writing.{stepField, replace, withSteps, pathLine}
 use Rattle.scan.specs.declared.places.Field.{Field}
 use Rattle.scan.specs.declared.places.Field.the-variants.{Found, Missing}
 use Rattle.scan.specs.Places.{partAt, FoundAt, FewFields, FieldIs}
-use Rattle.gfa.specs.declared.tables.Bases.{Bases}
-use Rattle.gfa.specs.declared.tables.Counts.{Counts}
-use Rattle.gfa.specs.Paths.{kindOf, columnOf, pathFields, pathAt}
+use Rattle.tables.specs.declared.tables.Bases.{Bases}
+use Rattle.tables.specs.declared.tables.Counts.{Counts}
+use Rattle.tables.specs.declared.kinds.PathKind.{PathKind}
+use Rattle.tables.specs.declared.kinds.PathKind.the-variants as kind
+use Rattle.tables.specs.declared.rows.PathWords.{PathWords}
+use Rattle.tables.specs.declared.rows.Place.{Place}
+use Rattle.tables.specs.Paths.{kindIn, columnOf, pathFields}
+use Rattle.tables.specs.ByNumber.{bytesIn, Inside, PathIs}
 use Rattle.normalize_tables.specs.declared.layout.Layout.{Layout}
-use Rattle.normalize_tables.specs.declared.layout.Made.{Made}
-use Rattle.normalize_tables.specs.News.{newPathAt}
-use Rattle.rewrite.specs.declared.paths.PathLine.{PathLine}
-use Rattle.rewrite.specs.Pieces.{overlapsOf, pathPiece}
-use Rattle.rewrite.specs.Rewriting.{PathsThere, LineIs}
+use Rattle.normalize_tables.specs.NewByNumber.{newPathNo}
+use Rattle.writers.specs.Writers.{Wrote}
+use Rattle.writers.proofs.Writing.{being, _▷_}
+use Rattle.rewrite.specs.Pieces.{fieldsIn, overlapsOf, pathPiece}
 use Rattle.rewrite.proofs.StepFields.{joined-last}
 
 -- ---- one part of a string replaced
 
+-- where a part ends
+abbrev endOf : Part → ℕ
+endOf p = p .at + length (p .bytes)
+
 -- the part at `at`, of a string whose first byte is at `start`, replaced by x
 swapped : ℕ → List ℕ → List ℕ → Part → List ℕ
 swapped start s x p = take (p .at - start) s ++ (x ++ drop (p .at + length (p .bytes) - start) s)
-
--- a byte more in front of the first string
-byte-front : (b c : ℕ) (x : List ℕ) (xs : List (List ℕ)) → joinWith b ((c ∷ x) ∷ xs) ≡ c ∷ joinWith b (x ∷ xs)
-byte-front b c x xs = joined-first b (c ∷ x) xs ∙ ap (λ r. c ∷ r) (sym (joined-first b x xs))
 
 -- one part more in front: the others, one of them replaced, stay as many
 join-front : (b : ℕ) (f x : List ℕ) (k : ℕ) (g : List ℕ) (gs : List (List ℕ)) → joinWith b (f ∷ replace k x (g ∷ gs)) ≡ f ++ (b ∷ joinWith b (replace k x (g ∷ gs)))
@@ -51,7 +55,7 @@ join-front b f x (suc k) g gs = refl
 record Swaps (b : ℕ) (x : List ℕ) (at : ℕ) (s : List ℕ) (ps : List Part) : Type 0 where
   whole : joinWith b (map bytesOf ps) ≡ s
   low : (k : ℕ) → k < length ps → at ≤ nth k ps nowhere .at
-  high : (k : ℕ) → k < length ps → nth k ps nowhere .at + length (nth k ps nowhere .bytes) ≤ at + length s
+  high : (k : ℕ) → k < length ps → endOf (nth k ps nowhere) ≤ at + length s
   one : (k : ℕ) → k < length ps → joinWith b (replace k x (map bytesOf ps)) ≡ swapped at s x (nth k ps nowhere)
 
 module _ (b : ℕ) (x : List ℕ) where
@@ -63,7 +67,7 @@ module _ (b : ℕ) (x : List ℕ) where
       low zero l = omega arith
       low (suc k) l = absurd (omega arith)
 
-      high : (k : ℕ) → k < 1 → nth k (record { at = at; bytes = [] } ∷ []) nowhere .at + length (nth k (record { at = at; bytes = [] } ∷ []) nowhere .bytes) ≤ at + 0
+      high : (k : ℕ) → k < 1 → endOf (nth k (record { at = at; bytes = [] } ∷ []) nowhere) ≤ at + 0
       high zero l = omega arith
       high (suc k) l = absurd (omega arith)
 
@@ -82,7 +86,7 @@ module _ (b : ℕ) (x : List ℕ) where
       low zero l = omega arith
       low (suc k) l = omega (arith, h .low k (omega arith))
 
-      high : (k : ℕ) → k < suc (length (p ∷ ps)) → nth k (record { at = at; bytes = [] } ∷ (p ∷ ps)) nowhere .at + length (nth k (record { at = at; bytes = [] } ∷ (p ∷ ps)) nowhere .bytes) ≤ at + suc (length s)
+      high : (k : ℕ) → k < suc (length (p ∷ ps)) → endOf (nth k (record { at = at; bytes = [] } ∷ (p ∷ ps)) nowhere) ≤ at + suc (length s)
       high zero l = omega arith
       high (suc k) l = omega (arith, h .high k (omega arith))
 
@@ -101,17 +105,18 @@ module _ (b : ℕ) (x : List ℕ) where
   swaps-more : (at c : ℕ) (s : List ℕ) (p : Part) (ps : List Part) → eqb c b ≡ false → p .at ≡ suc at → Swaps b x (suc at) s (p ∷ ps)
       → Swaps b x at (c ∷ s) (record { at = at; bytes = c ∷ (p .bytes) } ∷ ps)
   unfolding replace swapped bytesOf nth
-  swaps-more at c s p ps e f h = record { whole = byte-front b c (p .bytes) (map bytesOf ps) ∙ ap (λ r. c ∷ r) (h .whole); low = low; high = high; one = one }
+  swaps-more at c s p ps e f h = record { whole = joinWith-cons b c (p .bytes) (map bytesOf ps) ∙ ap (λ r. c ∷ r) (h .whole); low = low; high = high; one = one }
     where
       low : (k : ℕ) → k < suc (length ps) → at ≤ nth k (record { at = at; bytes = c ∷ (p .bytes) } ∷ ps) nowhere .at
       low zero l = omega arith
       low (suc k) l = omega (arith, h .low (suc k) (omega arith))
 
-      high : (k : ℕ) → k < suc (length ps) → nth k (record { at = at; bytes = c ∷ (p .bytes) } ∷ ps) nowhere .at + length (nth k (record { at = at; bytes = c ∷ (p .bytes) } ∷ ps) nowhere .bytes) ≤ at + suc (length s)
+      high : (k : ℕ) → k < suc (length ps) → endOf (nth k (record { at = at; bytes = c ∷ (p .bytes) } ∷ ps) nowhere) ≤ at + suc (length s)
       high zero l = omega (arith, h .high 0 (omega arith))
       high (suc k) l = omega (arith, h .high (suc k) (omega arith))
 
-      one : (k : ℕ) → k < suc (length ps) → joinWith b (replace k x ((c ∷ (p .bytes)) ∷ map bytesOf ps)) ≡ swapped at (c ∷ s) x (nth k (record { at = at; bytes = c ∷ (p .bytes) } ∷ ps) nowhere)
+      one : (k : ℕ) → k < suc (length ps)
+          → joinWith b (replace k x ((c ∷ (p .bytes)) ∷ map bytesOf ps)) ≡ swapped at (c ∷ s) x (nth k (record { at = at; bytes = c ∷ (p .bytes) } ∷ ps) nowhere)
       one zero l =
           let none : at - at ≡ 0 = omega arith in
           let before : p .at - suc at ≡ 0 = omega arith in
@@ -123,7 +128,7 @@ module _ (b : ℕ) (x : List ℕ) where
           let low = h .low (suc k) (omega arith) in
           let front : q .at - at ≡ suc (q .at - suc at) = omega arith in
           let end : q .at + length (q .bytes) - at ≡ suc (q .at + length (q .bytes) - suc at) = omega arith in
-          byte-front b c (p .bytes) (replace k x (map bytesOf ps)) ∙ rw (front, end) (ap (λ r. c ∷ r) (h .one (suc k) (omega arith)))
+          joinWith-cons b c (p .bytes) (replace k x (map bytesOf ps)) ∙ rw (front, end) (ap (λ r. c ∷ r) (h .one (suc k) (omega arith)))
 
   -- so it is with every string
   split-swaps : (at : ℕ) (s : List ℕ) → Swaps b x at s (split b at s)
@@ -154,13 +159,14 @@ module _ {text : List ℕ} {start size k at long : ℕ} (inside : start + size �
   found-long = ap (λ p. length (p .bytes)) (f .field) ∙ length-part at long text (f .inside)
 
   -- in the line
-  pub found-within : (start ≤ at) × (at + long ≤ start + size)
+  found-within : (start ≤ at) × (at + long ≤ start + size)
   found-within =
       let s = swaps [] in
       (omega (arith, s .low k (f .more), found-at), omega (arith, s .high k (f .more), found-at, found-long, length-part start size text inside))
 
   -- the line with another field there
-  pub line-swapped : (x : List ℕ) → joinWith 9 (replace k x (map bytesOf (fields (partAt text start size)))) ≡ part start (at - start) text ++ (x ++ part (at + long) (start + size - (at + long)) text)
+  line-swapped : (x : List ℕ)
+      → joinWith 9 (replace k x (map bytesOf (fields (partAt text start size)))) ≡ part start (at - start) text ++ (x ++ part (at + long) (start + size - (at + long)) text)
   unfolding swapped
   line-swapped x =
       let (low, high) = found-within in
@@ -170,7 +176,7 @@ module _ {text : List ℕ} {start size k at long : ℕ} (inside : start + size �
       ∙ rw (found-at, found-long, part-front start size (at - start) text (omega arith), part-rest start size (at + long - start) text (omega arith), place, left)
 
 -- a field that was found
-pub field-found : {text : List ℕ} {start size k at long : ℕ} {f : Field} → FieldIs text start size k f → f ≡ Found at long → FoundAt text start size k at long
+field-found : {text : List ℕ} {start size k at long : ℕ} {f : Field} → FieldIs text start size k f → f ≡ Found at long → FoundAt text start size k at long
 field-found found t = rw t at (found .says)
 
 -- ---- the fields of a path
@@ -221,61 +227,104 @@ module _ (x : List ℕ) (fs : List Part) where
 
 -- ---- the line of a path
 
--- its new steps
-abbrev newSteps : Layout → List (List ℕ) → List ℕ → ℕ → List NewStep
-newSteps g names work i = newPathAt names (g .steps) work (g .paths + 2 * i)
+-- its kind
+abbrev kindAt : PathWords → Kind
+kindAt r = kindIn (r .kind)
 
-module _ (text work : List ℕ) (b : Bases) (g : Layout) (names : List (List ℕ)) (i : ℕ) {r : PathLine} (e : LineIs work b i r) (inside : r .start + r .size ≤ length text) where
+module _ {text work : List ℕ} {b : Bases} {n : Counts} {p : ℕ} {r : PathWords} (e : PathIs text work b n p r) where
   -- the piece by the words of the row
-  piece-line : pathPiece text b g names work i ≡ endLine (tabbed (replace (columnOf (kindOf (r .kind))) (stepField (kindOf (r .kind)) (newSteps g names work i)) (pathFields (kindOf (r .kind)) (fields (partAt text (r .start) (r .size))))))
-  unfolding pathPiece pathLine pathAt
-  piece-line = rw (e .sort, e .place, e .long) (ap (λ l. endLine (tabbed l)) (steps-replaced _ _ _))
+  piece-line : (names : List (List ℕ)) (g : Layout) → pathPiece names text work b g p
+      ≡ endLine (tabbed (replace (columnOf (kindAt r)) (stepField (kindAt r) (newPathNo names work g p)) (pathFields (kindAt r) (fieldsIn text (r .line)))))
+  unfolding pathPiece pathLine
+  piece-line names g = rw (e .path) (ap (λ l. endLine (tabbed l)) (steps-replaced _ _ _))
 
-  module _ {f : Field} (found : FieldIs text (r .start) (r .size) (columnOf (kindOf (r .kind))) f) where
-    -- a line without a field of steps is written as it came
-    pub path-missing : f ≡ Missing → endLine (part (r .start) (r .size) text) ≡ pathPiece text b g names work i
-    path-missing t = sym (piece-line ∙ ap endLine (go (rw t at (found .says))))
-      where
-        go : FewFields text (r .start) (r .size) (columnOf (kindOf (r .kind)))
-            → tabbed (replace (columnOf (kindOf (r .kind))) (stepField (kindOf (r .kind)) (newSteps g names work i)) (pathFields (kindOf (r .kind)) (fields (partAt text (r .start) (r .size))))) ≡ part (r .start) (r .size) text
-        go q = fields-kept _ (fields (partAt text (r .start) (r .size))) (kindOf (r .kind)) (q .few) ∙ (unfold fields partAt in join-split 9 (r .start) (part (r .start) (r .size) text))
+  module _ {c : ℕ} {f : Field} (ec : c ≡ columnOf (kindAt r)) (found : FieldIs text (r .line .start) (r .line .size) c f) where
+    -- the field of the steps
+    steps-field : FieldIs text (r .line .start) (r .line .size) (columnOf (kindAt r)) f
+    steps-field = rw ec at found
+
+    -- a line without it is written as it came
+    few-fields : (names : List (List ℕ)) (g : Layout) → FewFields text (r .line .start) (r .line .size) (columnOf (kindAt r)) → endLine (bytesIn text (r .line)) ≡ pathPiece names text work b g p
+    few-fields names g q =
+        sym (piece-line names g
+        ∙ ap endLine (fields-kept _ (fieldsIn text (r .line)) (kindAt r) (q .few)
+        ∙ (unfold fields partAt in join-split 9 (r .line .start) (bytesIn text (r .line)))))
+
+    pub path-missing : (names : List (List ℕ)) (g : Layout) {limit at x : ℕ} {out out' : List ℕ} → f ≡ Missing
+        → Wrote limit out at (endLine (bytesIn text (r .line))) out' x → Wrote limit out at (pathPiece names text work b g p) out' x
+    path-missing names g t v = being (few-fields names g (rw t at (steps-field .says))) v
 
     module _ {at long : ℕ} (t : f ≡ Found at long) where
-      -- any other is written up to that field, with the new one, and with what stands behind it
-      pub path-written : (part (r .start) (at - r .start) text ++ stepField (kindOf (r .kind)) (newSteps g names work i))
-          ++ endLine (part (at + long) (r .start + r .size - (at + long)) text ++ overlapsOf (kindOf (r .kind)) (fields (partAt text (r .start) (r .size)))) ≡ pathPiece text b g names work i
-      path-written =
-          sym (piece-line
-          ∙ ap endLine (fields-swapped _ (fields (partAt text (r .start) (r .size))) (kindOf (r .kind)) (field-found found t .more)
-          ∙ ap (λ l. l ++ overlapsOf (kindOf (r .kind)) (fields (partAt text (r .start) (r .size)))) (line-swapped inside (field-found found t) _))
-          ∙ (unfold endLine in simp append-assoc))
+      -- it is in the line
+      path-field : (r .line .start ≤ at) × (at + long ≤ r .line .start + r .line .size) × (columnOf (kindAt r) < length (fieldsIn text (r .line)))
+      path-field = let q = field-found steps-field t in let w = found-within (e .line) q in (w .0, w .1, q .more)
 
--- its line is a part of the text
-pub path-inside : {text work : List ℕ} {b : Bases} {n : Counts} {g : Layout} {m : Made} {i : ℕ} {r : PathLine} → PathsThere text work b n g m → i < n .paths → LineIs work b i r
-    → r .start + r .size ≤ length text
-path-inside {i = i} h l e = omega (arith, h .source .readable .sound .paths .row i l .line, e .place, e .long)
+      pub path-low : r .line .start ≤ at
+      path-low = path-field .0
+
+      -- what stands before it is a part of the text, and so is it
+      pub path-front : r .line .start + (at - r .line .start) ≤ length text
+      path-front = omega (arith, path-field .0, path-field .1, e .line)
+
+      pub path-high : at + long ≤ length text
+      path-high = omega (arith, path-field .1, e .line)
+
+      -- what stands behind it is in the line
+      pub path-behind : r .line .start ≤ at + long
+      path-behind = omega (arith, path-field .0)
+
+      pub path-end : at + long ≤ r .line .start + r .line .size
+      path-end = path-field .1
+
+      -- and the line has the field
+      pub path-column : columnOf (kindAt r) < length (fieldsIn text (r .line))
+      path-column = path-field .2
+
+      -- the line is written up to that field, with the new one, and with what stands behind it
+      pub path-written : (names : List (List ℕ)) (g : Layout) {limit start x y z : ℕ} {out o q out' : List ℕ} → Wrote limit out start (part (r .line .start) (at - r .line .start) text) o x
+          → Wrote limit o x (stepField (kindAt r) (newPathNo names work g p)) q y
+          → Wrote limit q y (endLine (part (at + long) (r .line .start + r .line .size - (at + long)) text ++ overlapsOf (kindAt r) (fieldsIn text (r .line)))) out' z
+          → Wrote limit out start (pathPiece names text work b g p) out' z
+      unfolding endLine
+      path-written names g front field rest =
+          let new = stepField (kindAt r) (newPathNo names work g p) in
+          let old = field-found steps-field t in
+          let swapped = line-swapped (e .line) old new in
+          let all = fields-swapped new (fieldsIn text (r .line)) (kindAt r) (old .more) in
+          rw (piece-line names g, all, swapped) (being (simp append-assoc) (front ▷ field ▷ rest))
 
 -- ---- what stands behind the field of the steps
 
-module _ (text : List ℕ) (start size kind : ℕ) (l : List ℕ) (more : columnOf (kindOf kind) < length (fields (partAt text start size))) where
-  -- in a W line nothing is added
-  pub rest-walk : (kind ≡ 0 → ⊥) → l ++ (10 ∷ []) ≡ endLine (l ++ overlapsOf (kindOf kind) (fields (partAt text start size)))
-  unfolding kindOf overlapsOf endLine
-  rest-walk h = rw (ne-eqb kind 0 h, append-nil)
+module _ (text : List ℕ) (line : Place) {limit at r : ℕ} {out out' : List ℕ} where
+  -- the end of a P line: with overlaps
+  module _ {f : Field} (found : FieldIs text (line .start) (line .size) 3 f) where
+    pub overlaps-there : {from long : ℕ} → f ≡ Found from long → Wrote limit out at (10 ∷ []) out' r → Wrote limit out at (endLine (overlapsOf P (fieldsIn text line))) out' r
+    unfolding overlapsOf endLine
+    overlaps-there t v =
+        let q = field-found found t in
+        rw (ne-eqb (length (fieldsIn text line)) 3 (λ z. omega (arith, q .more))) v
 
-  module _ {f : Field} (h : kind ≡ 0) (found : FieldIs text start size 3 f) where
-    -- nor in a P line with overlaps
-    pub rest-there : {at long : ℕ} → f ≡ Found at long → l ++ (10 ∷ []) ≡ endLine (l ++ overlapsOf (kindOf kind) (fields (partAt text start size)))
-    unfolding kindOf overlapsOf endLine
-    rest-there {at} {long} t = rw (h, ne-eqb (length (fields (partAt text start size))) 3 (λ z. omega (arith, go (rw t at (found .says)))), append-nil)
-      where
-        go : FoundAt text start size 3 at long → 3 < length (fields (partAt text start size))
-        go q = q .more
+    -- without: they are `*` (42), behind a tab
+    pub overlaps-missing : f ≡ Missing → Inside text line × (2 < length (fieldsIn text line)) → Wrote limit out at (9 ∷ 42 ∷ 10 ∷ []) out' r
+        → Wrote limit out at (endLine (overlapsOf P (fieldsIn text line))) out' r
+    unfolding overlapsOf endLine
+    overlaps-missing t h v =
+        let q : FewFields text (line .start) (line .size) 3 = rw t at (found .says) in
+        rw (eq-eqb (length (fieldsIn text line)) 3 (omega (arith, q .few))) v
 
-    -- else they are `*`
-    pub rest-missing : f ≡ Missing → l ++ (9 ∷ 42 ∷ 10 ∷ []) ≡ endLine (l ++ overlapsOf (kindOf kind) (fields (partAt text start size)))
-    unfolding kindOf overlapsOf columnOf endLine
-    rest-missing t = rw (h, eq-eqb (length (fields (partAt text start size))) 3 (omega (arith, go (rw t at (found .says)), rw h at more)), append-assoc)
-      where
-        go : FewFields text start size 3 → length (fields (partAt text start size)) ≤ 3
-        go q = q .few
+  -- the rest of a line, by the kind
+  module _ {k : PathKind} (end size : ℕ) {x : ℕ} {o : List ℕ} (rest : Wrote limit out at (part end size text) o x) where
+    pub rest-of-p : k ≡ kind.P → Wrote limit o x (endLine (overlapsOf P (fieldsIn text line))) out' r
+        → Wrote limit out at (endLine (part end size text ++ overlapsOf (kindIn k) (fieldsIn text line))) out' r
+    unfolding endLine
+    rest-of-p e v = rw (e, append-assoc) (rest ▷ v)
+
+    pub rest-of-w : k ≡ kind.W → Wrote limit o x (10 ∷ []) out' r
+        → Wrote limit out at (endLine (part end size text ++ overlapsOf (kindIn k) (fieldsIn text line))) out' r
+    unfolding endLine overlapsOf
+    rest-of-w e v = rw (e, append-nil) (rest ▷ v)
+
+-- a P line has its steps in field 2
+pub p-fields : {k : PathKind} {n : ℕ} → k ≡ kind.P → columnOf (kindIn k) < n → 2 < n
+unfolding columnOf
+p-fields e h = rw e at h

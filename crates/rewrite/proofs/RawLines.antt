@@ -5,35 +5,42 @@ use mathlib.Core.Bool.{cond}
 use mathlib.Core.List.{List, [], _∷_, append-nil}
 use mathlib.Core.Path.{_≡_, refl}
 use lib.Dec.{eqb}
-use lib.ListN.{length, getD}
+use lib.ListN.{getD}
 use borrow.Author.Tests.{eq-eqb, ne-eqb}
-use Rattle.gfa_spec.specs.Bytes.{part, nil, join, endLine, ended}
+use Rattle.gfa_spec.specs.Bytes.{nil, join, endLine, ended}
 use Rattle.gfa_spec.specs.Reading.{choose}
-use Rattle.gfa.specs.declared.entry.Record.{Record}
-use Rattle.gfa.specs.declared.entry.Record.the-variants.{Segment, Link, Path, Header, Comment, Blank, Other}
-use Rattle.gfa.specs.declared.tables.Bases.{Bases}
-use Rattle.gfa.specs.declared.tables.Counts.{Counts}
-use Rattle.gfa.specs.Segments.{segmentAt}
-use Rattle.gfa.specs.Links.{linkAt}
-use Rattle.gfa.specs.Entries.{recordAt, entryOf, entryAt, Fits, EntryRow}
+use Rattle.writers.specs.Writers.{Wrote}
+use Rattle.writers.proofs.Writing.{nothing}
+use Rattle.tables.specs.declared.entry.LineEntry.{LineEntry}
+use Rattle.tables.specs.declared.entry.Record.{Record}
+use Rattle.tables.specs.declared.entry.Record.the-variants.{Segment, Link, Path, Header, Comment, Blank, Other}
+use Rattle.tables.specs.declared.tables.Bases.{Bases}
+use Rattle.tables.specs.declared.tables.Counts.{Counts}
+use Rattle.tables.specs.declared.rows.LinkWords.{LinkWords}
+use Rattle.tables.specs.declared.rows.SegmentWords.{SegmentWords}
+use Rattle.tables.specs.Entries.{entryOf, Fits}
+use Rattle.tables.specs.ByNumber.{bytesIn, Inside, LineIs, SegmentIs, LinkIs}
 use Rattle.normalize_tables.specs.declared.layout.Layout.{Layout}
+use Rattle.rewrite.specs.declared.lines.Class.{Class}
 use Rattle.rewrite.specs.declared.lines.Raw.{Raw}
-use Rattle.rewrite.specs.Pieces.{rawOf, classLines, rawPiece, segmentPiece, keptPiece}
+use Rattle.rewrite.specs.Pieces.{classNo, rawOf, classLines, rawPiece, segmentPiece, keptPiece}
+
+-- ---- raw lines
 
 -- the line of a record by its class
-class-line : (text work : List ℕ) (b : Bases) (class : ℕ) (r : Record) → 0 < class
-    → classLines class (entryOf text work b r) ≡ cond (eqb (rawOf r .class) class) (part (rawOf r .start) (rawOf r .size) text ∷ []) []
+class-line : (text work : List ℕ) (b : Bases) (c : Class) (r : Record) → 0 < classNo c
+    → classLines c (entryOf text work b r) ≡ cond (eqb (classNo (rawOf r .class)) (classNo c)) (bytesIn text (rawOf r .line) ∷ []) []
 unfolding classLines entryOf rawOf choose nil
-class-line text work b class (Segment k) h = rw (ne-eqb 0 class (λ e. omega arith))
-class-line text work b class (Link k) h = rw (ne-eqb 0 class (λ e. omega arith))
-class-line text work b class (Path k) h = rw (ne-eqb 0 class (λ e. omega arith))
-class-line text work b class (Header l) h = refl
-class-line text work b class (Comment l) h = refl
-class-line text work b class (Blank l) h = refl
-class-line text work b class (Other l) h = refl
+class-line text work b c (Segment k) h = rw (ne-eqb 0 (classNo c) (λ e. omega arith))
+class-line text work b c (Link k) h = rw (ne-eqb 0 (classNo c) (λ e. omega arith))
+class-line text work b c (Path k) h = rw (ne-eqb 0 (classNo c) (λ e. omega arith))
+class-line text work b c (Header l) h = refl
+class-line text work b c (Comment l) h = refl
+class-line text work b c (Blank l) h = refl
+class-line text work b c (Other l) h = refl
 
 -- a raw line is a part of the text
-raw-inside : (text : List ℕ) (n : Counts) (r : Record) → Fits text n r → rawOf r .start + rawOf r .size ≤ length text
+raw-inside : (text : List ℕ) (n : Counts) (r : Record) → Fits text n r → Inside text (rawOf r .line)
 unfolding rawOf
 raw-inside text n (Segment k) h = omega arith
 raw-inside text n (Link k) h = omega arith
@@ -43,36 +50,36 @@ raw-inside text n (Comment l) h = h
 raw-inside text n (Blank l) h = h
 raw-inside text n (Other l) h = h
 
-module _ (text work : List ℕ) (b : Bases) (class row : ℕ) {r : Record} {w : Raw} (h : 0 < class) (e : r ≡ recordAt work row) (f : w ≡ rawOf r) where
-  -- it is written where it is of the class
-  pub raw-written : w .class ≡ class → endLine (part (w .start) (w .size) text) ≡ rawPiece class text b work row
-  unfolding rawPiece entryAt ended join
-  raw-written k = rw (← e, class-line text work b class r h, ← f, eq-eqb _ _ k, append-nil)
+module _ {text work : List ℕ} {b : Bases} {n : Counts} {i : ℕ} {e : LineEntry} {w : Raw} (q : LineIs text work b n i e) (f : w ≡ rawOf (e .holds)) where
+  pub raw-place : Inside text (w .line)
+  raw-place = rw f (raw-inside text n (e .holds) (q .fits))
 
-  -- and else nothing is
-  pub raw-passed : (w .class ≡ class → ⊥) → [] ≡ rawPiece class text b work row
-  unfolding rawPiece entryAt ended join
-  raw-passed k = rw (← e, class-line text work b class r h, ← f, ne-eqb _ _ k)
+  module _ (c : Class) {x y limit at : ℕ} {out : List ℕ} (ex : x ≡ classNo (w .class)) (ey : y ≡ classNo c) (h : 0 < classNo c) where
+    -- nothing is written where it is of another class
+    pub raw-passed : (x ≡ y → ⊥) → at ≤ limit → Wrote limit out at (rawPiece c text work b i) out at
+    unfolding rawPiece ended join
+    raw-passed k l = rw (q .entry, class-line text work b c (e .holds) h, ← f, ← ex, ← ey, ne-eqb x y k) (nothing (omega arith))
 
--- the line of the row's record
-pub raw-row : {text work : List ℕ} {n : Counts} {row : ℕ} {r : Record} {w : Raw} → EntryRow text n work row → r ≡ recordAt work row → w ≡ rawOf r → w .start + w .size ≤ length text
-raw-row {text} {work} {n} {row} {r} h e f = rw f (raw-inside text n r (rw e (h .fits)))
+    -- else the line is
+    pub raw-written : {out' : List ℕ} {r : ℕ} → x ≡ y → Wrote limit out at (endLine (bytesIn text (w .line))) out' r → Wrote limit out at (rawPiece c text work b i) out' r
+    unfolding rawPiece ended join
+    raw-written k v = rw (q .entry, class-line text work b c (e .holds) h, ← f, ← ex, ← ey, eq-eqb x y k, append-nil) v
 
 -- ---- segments and links
 
-module _ (text work : List ℕ) {start size : ℕ} where
-  -- the line of a segment
-  pub segment-written : (at : ℕ) → start ≡ getD work at 0 → size ≡ getD work (at + 1) 0 → endLine (part start size text) ≡ segmentPiece text work at
-  unfolding segmentPiece segmentAt
-  segment-written at e f = rw (e, f)
+module _ {text work : List ℕ} {b : Bases} {i limit at r : ℕ} {out out' : List ℕ} where
+  pub segment-written : {s : SegmentWords} → SegmentIs text work b i s → Wrote limit out at (endLine (bytesIn text (s .line))) out' r → Wrote limit out at (segmentPiece text work b i) out' r
+  unfolding segmentPiece
+  segment-written q v = rw (q .segment) v
 
-  module _ (b : Bases) (g : Layout) (i : ℕ) {v : ℕ} (mark : v ≡ getD work (g .ends + 3 * i + 2) 0) where
-    -- the line of a link that is kept
-    pub kept-written : v ≡ 0 → start ≡ getD work (b .links + 8 * i) 0 → size ≡ getD work (b .links + 8 * i + 1) 0 → endLine (part start size text) ≡ keptPiece text b g work i
-    unfolding keptPiece linkAt
-    kept-written z e f = rw (← mark, z, e, f)
+  -- the line of a link that is kept
+  pub kept-written : (g : Layout) {mark : ℕ} {l : LinkWords} → mark ≡ getD work (g .ends + 3 * i + 2) 0 → mark ≡ 0 → LinkIs text work b i l
+      → Wrote limit out at (endLine (bytesIn text (l .line))) out' r → Wrote limit out at (keptPiece text work b g i) out' r
+  unfolding keptPiece
+  kept-written g {mark} e z q v = rw (← e, z, q .link) v
 
 -- a link that is removed
-pub kept-passed : (text work : List ℕ) (b : Bases) (g : Layout) (i : ℕ) {v : ℕ} → v ≡ getD work (g .ends + 3 * i + 2) 0 → (v ≡ 0 → ⊥) → [] ≡ keptPiece text b g work i
+pub kept-passed : (text work : List ℕ) (b : Bases) (g : Layout) (i : ℕ) {limit at mark : ℕ} {out : List ℕ} → mark ≡ getD work (g .ends + 3 * i + 2) 0 → (mark ≡ 0 → ⊥) → at ≤ limit
+    → Wrote limit out at (keptPiece text work b g i) out at
 unfolding keptPiece
-kept-passed text work b g i mark z = rw (← mark, ne-eqb _ _ z)
+kept-passed text work b g i {mark = mark} e z l = rw (← e, ne-eqb mark 0 z) (nothing (omega arith))

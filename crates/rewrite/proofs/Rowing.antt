@@ -1,35 +1,31 @@
 -- The loop that writes the pieces of the rows of a table: its state, and how it goes on. Assumes nothing.
-use Prim.Native.Nat.{ℕ, _+_, _*_, _-_, _≤_, _<_}
+use Prim.Native.Nat.{ℕ, _+_, _≤_, _<_}
+use native.Mathlib.Numerals.{add-one}
 use native.Mathlib.Omega.{arith}
 use mathlib.Core.List.{List}
-use mathlib.Core.Path.{_≡_, ap}
-use Rattle.gfa_spec.specs.Bytes.{join}
-use Rattle.work.proofs.RowCuts.{rows-all, rows-cons, rows-none}
+use mathlib.Core.Path.{_≡_, refl, _∙_}
+use lib.ListN.{length}
 use Rattle.writers.specs.Writers.{Wrote}
-use Rattle.writers.proofs.Writing.{Writing, writing-start, writing-more, writing-end}
-use Rattle.rewrite.specs.Pieces.{piecesAt}
+use Rattle.writers.proofs.Writing.{nothing, _▷_, keeps}
+use Rattle.rewrite.specs.Pieces.{piecesTo}
 
--- The state at i: the pieces of the rows before it are written.
-pub record Rowing (piece : List ℕ → ℕ → List ℕ) (width limit : ℕ) (out : List ℕ) (at : ℕ) (work : List ℕ) (base n : ℕ) (now : List ℕ) (next i : ℕ) : Type 0 where
+-- The state at row i of n: the pieces of the rows before it are written.
+pub record Rowing (piece : ℕ → List ℕ) (limit : ℕ) (out : List ℕ) (at n : ℕ) (now : List ℕ) (next i : ℕ) : Type 0 where
   pub high : i ≤ n
-  pub writing : Writing limit out at now next (piecesAt piece width work base n) (piecesAt piece width work (base + width * i) (n - i))
+  pub within : next ≤ limit
+  pub wrote : Wrote limit out at (piecesTo piece i) now next
+  pub long : length now ≡ length out
 
-module _ {piece : List ℕ → ℕ → List ℕ} {width limit : ℕ} {out : List ℕ} {at : ℕ} {work : List ℕ} {base n : ℕ} where
-  pub rowing-start : at ≤ limit → Rowing piece width limit out at work base n out at 0
-  unfolding piecesAt
-  rowing-start h = record { high = omega arith; writing = writing-start (omega arith) (ap join (rows-all piece width work base n)) }
+module _ {piece : ℕ → List ℕ} {limit at n : ℕ} {out : List ℕ} where
+  pub rowing-start : at ≤ limit → Rowing piece limit out at n out at 0
+  unfolding piecesTo
+  rowing-start h = record { high = omega arith; within = h; wrote = nothing (omega arith); long = refl }
 
-  module _ {now : List ℕ} {next i : ℕ} (s : Rowing piece width limit out at work base n now next i) where
-    -- the place is within the limit
-    pub rowing-within : next ≤ limit
-    rowing-within = omega (arith, s .writing .wrote .place)
+  module _ {now : List ℕ} {next i : ℕ} (s : Rowing piece limit out at n now next i) where
+    -- a turn writes the piece of row i
+    pub rowing-more : {after : List ℕ} {last : ℕ} → i < n → Wrote limit now next (piece i) after last → Rowing piece limit out at n after last (i + 1)
+    unfolding piecesTo
+    rowing-more h w = record { high = omega arith; within = omega (arith, w .place); wrote = rw add-one (s .wrote ▷ w); long = keeps w ∙ s .long }
 
-    -- a turn writes the piece of row i, which is at `place`
-    pub rowing-more : {after : List ℕ} {last place : ℕ} → i < n → place ≡ base + width * i → Wrote limit now next (piece work place) after last
-        → Rowing piece width limit out at work base n after last (i + 1)
-    unfolding piecesAt join
-    rowing-more h e w = record { high = omega arith; writing = writing-more (s .writing) (ap join (rows-cons piece width work base n i h)) (rw e at w) }
-
-    pub rowing-end : n ≤ i → Wrote limit out at (piecesAt piece width work base n) now next
-    unfolding piecesAt join
-    rowing-end h = writing-end (ap join (rows-none piece width work base n i h)) (s .writing)
+    pub rowing-end : n ≤ i → Wrote limit out at (piecesTo piece n) now next
+    rowing-end h = let e : i ≡ n = omega (arith, s .high) in rw e at (s .wrote)

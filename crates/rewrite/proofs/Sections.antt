@@ -1,56 +1,63 @@
 -- The pieces of the rows of a table are the lines of what the table holds, section by section. Assumes nothing.
 use Prim.Native.Nat.{ℕ, zero, suc, _+_, _*_, _<_}
+use native.Mathlib.Numerals.{add-one}
 use native.Mathlib.Omega.{arith}
 use mathlib.Core.Bool.{Bool, true, false, cond, not}
 use mathlib.Core.List.{List, [], _∷_, _++_, map, map-append, append-nil}
 use mathlib.Core.Path.{_≡_, refl, sym, _∙_}
 use lib.Dec.{eqb}
-use lib.ListN.{length, getD}
+use lib.ListN.{length, length-append, getD}
 use Rattle.gfa_spec.specs.Bytes.{join, keep, endLine, ended, one, nil}
 use Rattle.gfa_spec.specs.Reading.{Entry, Link, Path, choose}
 use Rattle.gfa_spec.specs.Records.{collect, leading, others}
 use Rattle.gfa_spec.specs.Runs.{bit}
 use Rattle.gfa_spec.proofs.Tests.{by-test}
 use Rattle.normalize_spec.specs.Folding.{NewStep}
-use Rattle.normalize_spec.specs.Writing.{pathLine, pathLines}
+use Rattle.normalize_spec.specs.Writing.{segmentLine, linkLine, pathLine, pathLines}
 use Rattle.work.specs.Rows.{rowsAt}
-use Rattle.work.proofs.Rows.{rows-length}
+use Rattle.work.proofs.Rows.{rows-snoc}
 use Rattle.writers.proofs.Joining.{join-last, ended-append, ended-last}
-use Rattle.gfa.specs.declared.tables.Bases.{Bases}
-use Rattle.gfa.specs.Links.{linkAt}
-use Rattle.gfa.specs.Paths.{pathAt}
-use Rattle.gfa.specs.Entries.{entryAt}
+use Rattle.tables.specs.declared.tables.Bases.{Bases}
+use Rattle.tables.specs.declared.tables.Counts.{Counts}
+use Rattle.tables.specs.Entries.{entriesAt}
+use Rattle.tables.specs.ByNumber.{entryNo, segmentNo, linkNo, pathNo, segmentsTo, linksTo, pathsTo}
+use Rattle.tables.proofs.ByNumber.{segments-more, links-more, paths-more, paths-length, entries-more, entries-zero, segments-zero, links-zero, paths-zero}
 use Rattle.normalize_tables.specs.declared.layout.Layout.{Layout}
-use Rattle.normalize_tables.specs.News.{newPathAt}
-use Rattle.rewrite.specs.Pieces.{piecesAt, classLines, rawPiece, keptPiece, pathPiece}
+use Rattle.normalize_tables.specs.News.{newAt, newsAt, newPathsAt, keyAt, keysAt}
+use Rattle.normalize_tables.specs.NewByNumber.{newPathNo, newPathsTo}
+use Rattle.normalize_tables.proofs.Nodes.{news-more}
+use Rattle.normalize_tables.proofs.NewByNumber.{new-paths-more}
+use Rattle.rewrite.specs.declared.lines.Class.{Class}
+use Rattle.rewrite.specs.declared.lines.Class.the-variants as class
+use Rattle.rewrite.specs.Pieces.{piecesTo, classLines, rawPiece, segmentPiece, newPiece, keptPiece, pairLine, addedPiece, pathPiece}
 
--- one piece more
-pub pieces-last : (piece : List ℕ → ℕ → List ℕ) (width : ℕ) (w : List ℕ) (base n : ℕ) → piecesAt piece width w base (suc n) ≡ piecesAt piece width w base n ++ piece w (base + width * n)
-unfolding piecesAt rowsAt
-pieces-last piece width w base n = join-last (rowsAt piece width w base n) (piece w (base + width * n))
+-- pieces that are the same row by row
+pieces-same : (piece other : ℕ → List ℕ) (n : ℕ) → ((i : ℕ) → i < n → piece i ≡ other i) → piecesTo piece n ≡ piecesTo other n
+unfolding piecesTo
+pieces-same piece other zero h = refl
+pieces-same piece other (suc n) h = rw (pieces-same piece other n (λ i l. h i (omega arith)), h n (omega arith))
 
--- pieces that are the same row by row, in one table or two
-pieces-same : (piece other : List ℕ → ℕ → List ℕ) (width width' : ℕ) (w : List ℕ) (base base' n : ℕ)
-    → ((i : ℕ) → i < n → piece w (base + width * i) ≡ other w (base' + width' * i)) → piecesAt piece width w base n ≡ piecesAt other width' w base' n
-pieces-same piece other width width' w base base' zero h = unfold piecesAt rowsAt in refl
-pieces-same piece other width width' w base base' (suc n) h =
-    rw (pieces-last piece width w base n, pieces-last other width' w base' n, pieces-same piece other width width' w base base' n (λ i l. h i (omega arith)), h n (omega arith))
+-- ---- a table that grows row by row
 
--- lines for each row
-pieces-many : {A : Type 0} (f : A → List (List ℕ)) (row : List ℕ → ℕ → A) (width : ℕ) (w : List ℕ) (base n : ℕ)
-    → ended (join (map f (rowsAt row width w base n))) ≡ piecesAt (λ v at. ended (f (row v at))) width w base n
-unfolding rowsAt
-pieces-many f row width w base zero = unfold ended join piecesAt rowsAt in refl
-pieces-many f row width w base (suc n) =
-    rw (map-append, join-last (map f (rowsAt row width w base n)), ended-append, pieces-many f row width w base n, pieces-last (λ v at. ended (f (row v at))) width w base n)
+module _ {A : Type 0} (table : ℕ → List A) (row : ℕ → A) (none : table 0 ≡ []) (more : (i : ℕ) → table (i + 1) ≡ table i ++ (row i ∷ [])) where
+  pub grown : (n : ℕ) → table (suc n) ≡ table n ++ (row n ∷ [])
+  grown n = rw (← add-one n) (more n)
 
--- one line for each row
-pub pieces-lines : {A : Type 0} (f : A → List ℕ) (row : List ℕ → ℕ → A) (width : ℕ) (w : List ℕ) (base n : ℕ)
-    → ended (map f (rowsAt row width w base n)) ≡ piecesAt (λ v at. endLine (f (row v at))) width w base n
-unfolding rowsAt
-pieces-lines f row width w base zero = unfold ended join piecesAt rowsAt in refl
-pieces-lines f row width w base (suc n) =
-    rw (map-append, ended-last (map f (rowsAt row width w base n)), pieces-lines f row width w base n, pieces-last (λ v at. endLine (f (row v at))) width w base n)
+  pub table-length : (n : ℕ) → length (table n) ≡ n
+  table-length zero = rw none
+  table-length (suc n) = rw (grown n, length-append, table-length n) (omega arith)
+
+  -- lines for each row
+  pieces-many : (f : A → List (List ℕ)) (n : ℕ) → ended (join (map f (table n))) ≡ piecesTo (λ i. ended (f (row i))) n
+  unfolding piecesTo
+  pieces-many f zero = rw none (unfold ended join in refl)
+  pieces-many f (suc n) = rw (grown n, map-append, join-last (map f (table n)), ended-append, pieces-many f n)
+
+  -- one line for each row
+  pieces-lines : (f : A → List ℕ) (n : ℕ) → ended (map f (table n)) ≡ piecesTo (λ i. endLine (f (row i))) n
+  unfolding piecesTo
+  pieces-lines f zero = rw none (unfold ended join in refl)
+  pieces-lines f (suc n) = rw (grown n, map-append, ended-last (map f (table n)), pieces-lines f n)
 
 -- ---- raw lines
 
@@ -60,23 +67,37 @@ unfolding collect join
 collect-join f [] = refl
 collect-join f (e ∷ es) = rw (collect-join f es)
 
-module _ (text : List ℕ) (b : Bases) (w : List ℕ) (base n : ℕ) where
+module _ (text work : List ℕ) (b : Bases) (n : ℕ) where
   -- the lines of a class
-  class-pieces : (class : ℕ) → ended (collect (classLines class) (rowsAt (entryAt text b) 3 w base n)) ≡ piecesAt (rawPiece class text b) 3 w base n
+  class-pieces : (c : Class) → ended (collect (classLines c) (entriesAt text work b n)) ≡ piecesTo (rawPiece c text work b) n
   unfolding rawPiece
-  class-pieces class = rw (collect-join (classLines class)) (pieces-many (classLines class) (entryAt text b) 3 w base n)
+  class-pieces c = rw (collect-join (classLines c)) (pieces-many (entriesAt text work b) (entryNo text work b) (entries-zero text work b) (entries-more text work b) (classLines c) n)
 
-  -- headers, comments and blanks are of class 1
-  pub leading-pieces : ended (leading (rowsAt (entryAt text b) 3 w base n)) ≡ piecesAt (rawPiece 1 text b) 3 w base n
+  -- headers, comments and blanks
+  pub leading-pieces : ended (leading (entriesAt text work b n)) ≡ piecesTo (rawPiece class.Leading text work b) n
   unfolding leading classLines choose one nil
-  leading-pieces = class-pieces 1
+  leading-pieces = class-pieces class.Leading
 
-  -- the other lines are of class 2
-  pub others-pieces : ended (others (rowsAt (entryAt text b) 3 w base n)) ≡ piecesAt (rawPiece 2 text b) 3 w base n
+  -- the other lines
+  pub others-pieces : ended (others (entriesAt text work b n)) ≡ piecesTo (rawPiece class.Other text work b) n
   unfolding others classLines choose one nil
-  others-pieces = class-pieces 2
+  others-pieces = class-pieces class.Other
 
--- ---- kept links
+  -- ---- segments, old and new
+
+  pub segment-pieces : ended (map (λ s. s .line) (segmentsTo text work b n)) ≡ piecesTo (segmentPiece text work b) n
+  unfolding segmentPiece
+  segment-pieces = pieces-lines (segmentsTo text work b) (segmentNo text work b) (segments-zero text work b) (segments-more text work b) (λ s. s .line) n
+
+  news-zero : (g : Layout) (first : ℕ) → newsAt text work b g first 0 ≡ []
+  unfolding newsAt rowsAt
+  news-zero g first = refl
+
+  pub new-pieces : (c : Counts) (g : Layout) (first : ℕ) → ended (map segmentLine (newsAt text work b g first n)) ≡ piecesTo (newPiece text work b g first) n
+  unfolding newPiece
+  new-pieces c g first = pieces-lines (newsAt text work b g first) (newAt text b g first work) (news-zero g first) (λ i. rw add-one (news-more text work b c g first i)) segmentLine n
+
+-- ---- links
 
 -- the lines of what is kept
 keep-join : {A : Type 0} (q : A → Bool) (f : A → List ℕ) (xs : List A) → map f (keep q xs) ≡ join (map (λ x. cond (q x) (f x ∷ []) []) xs)
@@ -91,16 +112,29 @@ mark-line true v l e = rw e
 mark-line false v l e = rw (e, append-nil)
 
 -- the links that are not marked
-pub kept-pieces : (p : Link → Bool) (text : List ℕ) (b : Bases) (g : Layout) (w : List ℕ) (n : ℕ)
-    → ((i : ℕ) → i < n → getD w (g .ends + 3 * i + 2) 0 ≡ bit (p (linkAt text w (b .links + 8 * i))))
-    → ended (map (λ l. l .line) (keep (λ l. not (p l)) (rowsAt (linkAt text) 8 w (b .links) n))) ≡ piecesAt (keptPiece text b g) 1 w 0 n
+pub kept-pieces : (p : Link → Bool) (text work : List ℕ) (b : Bases) (g : Layout) (n : ℕ)
+    → ((i : ℕ) → i < n → getD work (g .ends + 3 * i + 2) 0 ≡ bit (p (linkNo text work b i)))
+    → ended (map (λ l. l .line) (keep (λ l. not (p l)) (linksTo text work b n))) ≡ piecesTo (keptPiece text work b g) n
 unfolding keptPiece
-kept-pieces p text b g w n h =
+kept-pieces p text work b g n h =
     let lines : Link → List (List ℕ) = λ l. cond (not (p l)) (l .line ∷ []) [] in
     rw (keep-join (λ l. not (p l)) (λ l. l .line))
-    (pieces-many lines (linkAt text) 8 w (b .links) n
-    ∙ pieces-same (λ v at. ended (lines (linkAt text v at))) (keptPiece text b g) 8 1 w (b .links) 0 n
-    (λ i l. let place : 0 + 1 * i ≡ i = omega arith in rw place (mark-line (p (linkAt text w (b .links + 8 * i))) _ _ (h i l))))
+    (pieces-many (linksTo text work b) (linkNo text work b) (links-zero text work b) (links-more text work b) lines n
+    ∙ pieces-same (λ i. ended (lines (linkNo text work b i))) (keptPiece text work b g) n (λ i l. mark-line (p (linkNo text work b i)) _ _ (h i l)))
+
+-- the added links
+module _ (names : List (List ℕ)) (work : List ℕ) (g : Layout) where
+  keys-zero : keysAt names (g .steps) work (g .added) 0 ≡ []
+  unfolding keysAt rowsAt
+  keys-zero = refl
+
+  keys-more : (i : ℕ) → keysAt names (g .steps) work (g .added) (i + 1) ≡ keysAt names (g .steps) work (g .added) i ++ (keyAt names (g .steps) work (g .added + i) ∷ [])
+  unfolding keysAt
+  keys-more i = let place : g .added + 1 * i ≡ g .added + i = omega arith in rw (add-one, rows-snoc (keyAt names (g .steps)) 1 work (g .added) i, place)
+
+  pub added-pieces : (n : ℕ) → ended (map linkLine (keysAt names (g .steps) work (g .added) n)) ≡ piecesTo (addedPiece names work g) n
+  unfolding addedPiece pairLine keyAt
+  added-pieces n = pieces-lines (keysAt names (g .steps) work (g .added)) (λ i. keyAt names (g .steps) work (g .added + i)) keys-zero keys-more linkLine n
 
 -- ---- paths
 
@@ -114,13 +148,18 @@ paths-last (q ∷ ps) [] p steps e = absurd (omega arith)
 paths-last (q ∷ ps) (s ∷ new) p steps e = rw (paths-last ps new p steps (omega arith))
 
 -- the paths with their new steps
-pub paths-pieces : (text : List ℕ) (b : Bases) (g : Layout) (names : List (List ℕ)) (w : List ℕ) (n : ℕ)
-    → ended (pathLines (rowsAt (pathAt text (b .steps)) 5 w (b .paths) n) (rowsAt (newPathAt names (g .steps)) 2 w (g .paths) n)) ≡ piecesAt (pathPiece text b g names) 1 w 0 n
-unfolding rowsAt
-paths-pieces text b g names w zero = unfold ended pathLines join piecesAt rowsAt in refl
-paths-pieces text b g names w (suc n) =
-    let place : 0 + 1 * n ≡ n = omega arith in
-    let many : length (rowsAt (pathAt text (b .steps)) 5 w (b .paths) n) ≡ length (rowsAt (newPathAt names (g .steps)) 2 w (g .paths) n)
-    = rows-length (pathAt text (b .steps)) 5 w (b .paths) n ∙ sym (rows-length (newPathAt names (g .steps)) 2 w (g .paths) n) in
-    rw (paths-last _ _ _ _ many, ended-last _ (pathLine (pathAt text (b .steps) w (b .paths + 5 * n)) (newPathAt names (g .steps) w (g .paths + 2 * n))), paths-pieces text b g names w n, pieces-last (pathPiece text b g names) 1 w 0 n, place)
-    (unfold pathPiece in refl)
+module _ (names : List (List ℕ)) (text work : List ℕ) (b : Bases) (g : Layout) where
+  new-paths-zero : newPathsTo names work g 0 ≡ []
+  unfolding newPathsAt rowsAt
+  new-paths-zero = refl
+
+  pub paths-pieces : (n : ℕ) → ended (pathLines (pathsTo text work b n) (newPathsTo names work g n)) ≡ piecesTo (pathPiece names text work b g) n
+  unfolding piecesTo
+  paths-pieces zero = rw (paths-zero text work b) (unfold ended pathLines join in refl)
+  paths-pieces (suc n) =
+      let ps = pathsTo text work b n in
+      let new = newPathsTo names work g n in
+      let old-more = grown (pathsTo text work b) (pathNo text work b) (paths-zero text work b) (paths-more text work b) n in
+      let new-more = grown (newPathsTo names work g) (newPathNo names work g) new-paths-zero (new-paths-more names work g) n in
+      let many : length ps ≡ length new = paths-length text work b n ∙ sym (table-length (newPathsTo names work g) (newPathNo names work g) new-paths-zero (new-paths-more names work g) n) in
+      rw (old-more, new-more, paths-last ps new (pathNo text work b n) (newPathNo names work g n) many, ended-last (pathLines ps new), paths-pieces n) (unfold pathPiece in refl)

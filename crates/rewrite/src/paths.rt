@@ -1,40 +1,37 @@
 // The lines of the paths, with their new steps.
 ghost use mathlib.Core.Path.{_≡_};
-ghost use mathlib.Core.Bool.{cond};
+ghost use mathlib.Core.Bool.{true, cond};
 ghost use mathlib.Core.List.{[], _∷_, _++_};
-ghost use Prim.Native.Nat.{_+_, _*_, _-_, _≤_, _<_};
+ghost use Prim.Native.Nat.{_+_, _-_, _≤_, _<_};
 ghost use lib.Dec.{eqb};
 ghost use lib.ListN.{length};
 ghost use Rattle.gfa_spec.specs.Bytes.{part, endLine};
-ghost use Rattle.gfa_spec.specs.Reading.{fields};
+ghost use Rattle.gfa_spec.specs.Reading.{P, W, isOrientation};
 ghost use Rattle.normalize_spec.specs.Writing.{stepField};
-ghost use Rattle.scan.specs.Places.{partAt};
-ghost use Rattle.gfa.specs.Paths.{kindOf, columnOf};
-ghost use Rattle.normalize_tables.specs.News.{namesAt, newStepAt, newPathAt};
+ghost use Rattle.tables.specs.ByNumber.{Inside};
+ghost use Rattle.tables.specs.Paths.{kindIn, columnOf};
+ghost use Rattle.normalize_tables.specs.NewByNumber.{newPathNo};
+ghost use Rattle.new_ids.specs.Ids.{Named};
 ghost use Rattle.writers.specs.Writers.{Wrote};
-ghost use Rattle.rewrite.specs.Pieces.{piecesAt, tokenOf, tokenPiece, overlapsOf, pathPiece};
-ghost use Rattle.rewrite.specs.Rewriting.{Stepped, PathsThere, LineIs};
+ghost use Rattle.rewrite.specs.Pieces.{piecesTo, nodes, stepIn, tokenOf, tokenPiece, fieldsIn, overlapsOf, pathPiece};
+ghost use Rattle.rewrite.specs.Rewriting.{Rewritable};
 use crate::links::sign_of;
-use gfa::paths::column_of;
-use gfa::tables::Bases;
-use gfa::tables::Counts;
 use new_ids::ids::put_id;
-use normalize_tables::layout::Layout;
-use normalize_tables::layout::Made;
+use normalize_tables::layout::Area;
+use normalize_tables::rows::NewStepWords;
+use normalize_tables::rows::new_path_at;
+use normalize_tables::rows::new_step_at;
 use scan::places::Field;
 use scan::places::field_at;
-use work::work::word;
+use tables::entry::PathNo;
+use tables::kinds::PathKind;
+use tables::kinds::column_of;
+use tables::rows::Place;
+use tables::rows::path_at;
 use writers::bytes::put_byte;
 use writers::bytes::put_bytes;
 use writers::bytes::put_constant;
 use writers::pieces::put_line;
-
-// A path's line: its kind, and its place.
-pub struct PathLine {
-    pub kind: usize,
-    pub start: usize,
-    pub size: usize,
-}
 
 // The mark before a step of a W line.
 fn mark_of(o: usize) -> u8
@@ -56,92 +53,126 @@ fn put_comma(out: &mut [u8], at: usize, limit: usize, k: usize) -> usize
     put_byte(out, at, limit, b',')
 }
 
-// Step k of a path of the kind, the new step s.
+// Step k of a P line.
+fn put_p_token(
+    out: &mut [u8],
+    at: usize,
+    limit: usize,
+    text: &[u8],
+    work: &[u32],
+    a: Area,
+    k: usize,
+    s: NewStepWords,
+) -> usize
+    requires { ⌜ Named (now text) (now work) (a .b) (a .n) (a .g) (a .m .segs) × (s .node < a .n .segs + a .m .segs) × (isOrientation (s .mark) ≡ true) ⌝ }
+    ensures { λ r. ⌜ Wrote limit (now (out .entry)) at
+        (tokenOf P k (stepIn (nodes (now (text .entry)) (now (work .entry)) (a .b) (a .n) (a .g) (a .m)) s)) (now (out .exit)) r ⌝ }
+{
+    let sign = sign_of(s.mark);
+    let next = put_comma(out, at, limit, k);
+    let name = put_id(out, next, limit, text, work, a, s.node);
+    put_byte(out, name, limit, sign)
+}
+
+// Step k of a W line.
+fn put_w_token(
+    out: &mut [u8],
+    at: usize,
+    limit: usize,
+    text: &[u8],
+    work: &[u32],
+    a: Area,
+    k: usize,
+    s: NewStepWords,
+) -> usize
+    requires { ⌜ Named (now text) (now work) (a .b) (a .n) (a .g) (a .m .segs) × (s .node < a .n .segs + a .m .segs) ⌝ }
+    ensures { λ r. ⌜ Wrote limit (now (out .entry)) at
+        (tokenOf W k (stepIn (nodes (now (text .entry)) (now (work .entry)) (a .b) (a .n) (a .g) (a .m)) s)) (now (out .exit)) r ⌝ }
+{
+    let mark = put_byte(out, at, limit, mark_of(s.mark));
+    put_id(out, mark, limit, text, work, a, s.node)
+}
+
+// Step k of those from new step `first` on, in a line of the kind.
 pub fn put_token(
     out: &mut [u8],
     at: usize,
     limit: usize,
     text: &[u8],
     work: &[u32],
-    b: Bases,
-    n: Counts,
-    g: Layout,
-    m: Made,
-    kind: usize,
+    a: Area,
+    kind: PathKind,
+    first: usize,
     k: usize,
-    s: usize,
 ) -> usize
-    requires { ⌜ Stepped (now text) (now work) b n g m × (s < m .steps) ⌝ }
+    requires { ⌜ Rewritable (now text) (now work) (a .b) (a .n) (a .g) (a .m) × (first + k < a .m .steps) ⌝ }
     ensures { λ r. ⌜ Wrote limit (now (out .entry)) at
-        (tokenOf (kindOf kind) k (newStepAt (namesAt (now (text .entry)) (now (work .entry)) b n g (m .first) (m .segs)) (now (work .entry)) (g .steps + 2 * s))) (now (out .exit)) r ⌝ }
+        (tokenPiece (kindIn kind) (nodes (now (text .entry)) (now (work .entry)) (a .b) (a .n) (a .g) (a .m)) (now (work .entry)) (a .g) first k) (now (out .exit)) r ⌝ }
 {
-    let row = g.steps + 2 * s;
-    let node = word(work, row);
-    let o = word(work, row + 1);
-    if kind == 0 {
-        let next = put_comma(out, at, limit, k);
-        let name = put_id(out, next, limit, text, work, b, n, g, m.first, m.segs, node);
-        return put_byte(out, name, limit, sign_of(o));
+    let s = new_step_at(work, a, first + k);
+    match kind {
+        PathKind::P => put_p_token(out, at, limit, text, work, a, k, s),
+        PathKind::W => put_w_token(out, at, limit, text, work, a, k, s),
     }
-    let mark = put_byte(out, at, limit, mark_of(o));
-    put_id(out, mark, limit, text, work, b, n, g, m.first, m.segs, node)
 }
 
-// `count` new steps from step `first` on, as a line of the kind has them.
+// The new steps from `first` up to `end`, as a line of the kind has them.
 pub fn put_tokens(
     out: &mut [u8],
     at: usize,
     limit: usize,
     text: &[u8],
     work: &[u32],
-    b: Bases,
-    n: Counts,
-    g: Layout,
-    m: Made,
-    kind: usize,
+    a: Area,
+    kind: PathKind,
     first: usize,
-    count: usize,
+    end: usize,
 ) -> usize
-    requires { ⌜ (at ≤ limit) × Stepped (now text) (now work) b n g m × (first + count ≤ m .steps) ⌝ }
+    requires { ⌜ (at ≤ limit) × Rewritable (now text) (now work) (a .b) (a .n) (a .g) (a .m) × (first ≤ end) × (end ≤ a .m .steps) ⌝ }
     ensures { λ r. ⌜ Wrote limit (now (out .entry)) at
-        (piecesAt (tokenPiece (kindOf kind) (namesAt (now (text .entry)) (now (work .entry)) b n g (m .first) (m .segs)) (g .steps + 2 * first)) 1 (now (work .entry)) 0 count)
-        (now (out .exit)) r ⌝ }
+        (piecesTo (tokenPiece (kindIn kind) (nodes (now (text .entry)) (now (work .entry)) (a .b) (a .n) (a .g) (a .m)) (now (work .entry)) (a .g) first) (end - first)) (now (out .exit)) r ⌝ }
 {
+    let count = end - first;
     let mut next = at;
     let mut k = 0;
     while k < count {
-        next = put_token(out, next, limit, text, work, b, n, g, m, kind, k, first + k);
+        next = put_token(out, next, limit, text, work, a, kind, first, k);
         k += 1;
     }
     next
 }
 
-// The field of the new steps of path i.
+// The field of the steps of path `p`.
 pub fn put_steps(
     out: &mut [u8],
     at: usize,
     limit: usize,
     text: &[u8],
     work: &[u32],
-    b: Bases,
-    n: Counts,
-    g: Layout,
-    m: Made,
-    kind: usize,
-    i: usize,
+    a: Area,
+    kind: PathKind,
+    p: PathNo,
 ) -> usize
-    requires { ⌜ (at ≤ limit) × PathsThere (now text) (now work) b n g m × (i < n .paths) ⌝ }
+    requires { ⌜ (at ≤ limit) × Rewritable (now text) (now work) (a .b) (a .n) (a .g) (a .m) × (p .0 < a .n .paths) ⌝ }
     ensures { λ r. ⌜ Wrote limit (now (out .entry)) at
-        (stepField (kindOf kind) (newPathAt (namesAt (now (text .entry)) (now (work .entry)) b n g (m .first) (m .segs)) (g .steps) (now (work .entry)) (g .paths + 2 * i)))
-        (now (out .exit)) r ⌝ }
+        (stepField (kindIn kind) (newPathNo (nodes (now (text .entry)) (now (work .entry)) (a .b) (a .n) (a .g) (a .m)) (now (work .entry)) (a .g) (p .0))) (now (out .exit)) r ⌝ }
 {
-    let row = g.paths + 2 * i;
-    let first = word(work, row);
-    let count = word(work, row + 1);
-    if count == 0 {
+    let path = new_path_at(work, a, p);
+    if path.first == path.end {
         return put_byte(out, at, limit, b'*');
     }
-    put_tokens(out, at, limit, text, work, b, n, g, m, kind, first, count)
+    put_tokens(out, at, limit, text, work, a, kind, path.first, path.end)
+}
+
+// The end of a P line, with the overlaps `*` where it has none.
+fn put_overlaps(out: &mut [u8], at: usize, limit: usize, text: &[u8], line: Place) -> usize
+    requires { ⌜ Inside (now text) line × (2 < length (fieldsIn (now text) line)) ⌝ }
+    ensures { λ r. ⌜ Wrote limit (now (out .entry)) at (endLine (overlapsOf P (fieldsIn (now (text .entry)) line))) (now (out .exit)) r ⌝ }
+{
+    let Field::Found(_, _) = field_at(text, line.start, line.size, 3) else {
+        return put_constant(out, at, limit, b"\t*\n");
+    };
+    put_byte(out, at, limit, b'\n')
 }
 
 // What stands in a path's line behind the field of the steps, which ends at `end`; a P line without overlaps gets them.
@@ -150,64 +181,46 @@ pub fn put_rest(
     at: usize,
     limit: usize,
     text: &[u8],
-    start: usize,
-    size: usize,
-    kind: usize,
+    line: Place,
+    kind: PathKind,
     end: usize,
 ) -> usize
-    requires { ⌜ (start + size ≤ length (now text)) × (start ≤ end) × (end ≤ start + size) × (columnOf (kindOf kind) < length (fields (partAt (now text) start size))) ⌝ }
+    requires { ⌜ Inside (now text) line × (line .start ≤ end) × (end ≤ line .start + line .size) × (columnOf (kindIn kind) < length (fieldsIn (now text) line)) ⌝ }
     ensures { λ r. ⌜ Wrote limit (now (out .entry)) at
-        (endLine (part end (start + size - end) (now (text .entry)) ++ overlapsOf (kindOf kind) (fields (partAt (now (text .entry)) start size)))) (now (out .exit)) r ⌝ }
+        (endLine (part end (line .start + line .size - end) (now (text .entry)) ++ overlapsOf (kindIn kind) (fieldsIn (now (text .entry)) line))) (now (out .exit)) r ⌝ }
 {
-    let rest = put_bytes(out, at, limit, text, end, start + size - end);
-    if kind != 0 {
-        return put_byte(out, rest, limit, b'\n');
+    let rest = put_bytes(out, at, limit, text, end, line.start + line.size - end);
+    match kind {
+        PathKind::P => put_overlaps(out, rest, limit, text, line),
+        PathKind::W => put_byte(out, rest, limit, b'\n'),
     }
-    let Field::Found(_, _) = field_at(text, start, size, 3) else {
-        return put_constant(out, rest, limit, b"\t*\n");
-    };
-    put_byte(out, rest, limit, b'\n')
 }
 
-// The line of path i: its kind, and its place.
-pub fn line_of(work: &[u32], b: Bases, i: usize) -> PathLine
-    requires { ⌜ b .paths + 5 * i + 5 ≤ length (now work) ⌝ }
-    ensures { λ r. ⌜ LineIs (now (work .entry)) b i r ⌝ }
-{
-    let row = b.paths + 5 * i;
-    let kind = word(work, row);
-    let start = word(work, row + 1);
-    let size = word(work, row + 2);
-    PathLine { kind, start, size }
-}
-
-// Path i with its new steps: its line up to the field of the steps, that field, and what stands behind it.
+// Path `p` with its new steps: its line up to the field of the steps, that field, and what stands behind it.
 pub fn put_path(
     out: &mut [u8],
     at: usize,
     limit: usize,
     text: &[u8],
     work: &[u32],
-    b: Bases,
-    n: Counts,
-    g: Layout,
-    m: Made,
-    i: usize,
+    a: Area,
+    p: PathNo,
 ) -> usize
-    requires { ⌜ PathsThere (now text) (now work) b n g m × (i < n .paths) ⌝ }
+    requires { ⌜ Rewritable (now text) (now work) (a .b) (a .n) (a .g) (a .m) × (p .0 < a .n .paths) ⌝ }
     ensures { λ r. ⌜ Wrote limit (now (out .entry)) at
-        (pathPiece (now (text .entry)) b g (namesAt (now (text .entry)) (now (work .entry)) b n g (m .first) (m .segs)) (now (work .entry)) i) (now (out .exit)) r ⌝ }
+        (pathPiece (nodes (now (text .entry)) (now (work .entry)) (a .b) (a .n) (a .g) (a .m)) (now (text .entry)) (now (work .entry)) (a .b) (a .g) (p .0)) (now (out .exit)) r ⌝ }
 {
-    let line = line_of(work, b, i);
-    let start = line.start;
-    let size = line.size;
-    let kind = line.kind;
+    let path = path_at(text, work, a.b, a.n, p);
+    let kind = path.kind;
+    let start = path.line.start;
+    let size = path.line.size;
     let Field::Found(from, long) = field_at(text, start, size, column_of(kind)) else {
         return put_line(out, at, limit, text, start, size);
     };
+    let end = from + long;
     let front = put_bytes(out, at, limit, text, start, from - start);
-    let field = put_steps(out, front, limit, text, work, b, n, g, m, kind, i);
-    put_rest(out, field, limit, text, start, size, kind, from + long)
+    let field = put_steps(out, front, limit, text, work, a, kind, p);
+    put_rest(out, field, limit, text, path.line, kind, end)
 }
 
 // The lines of the paths.
@@ -217,20 +230,17 @@ pub fn put_paths(
     limit: usize,
     text: &[u8],
     work: &[u32],
-    b: Bases,
-    n: Counts,
-    g: Layout,
-    m: Made,
+    a: Area,
 ) -> usize
-    requires { ⌜ (at ≤ limit) × PathsThere (now text) (now work) b n g m ⌝ }
+    requires { ⌜ (at ≤ limit) × Rewritable (now text) (now work) (a .b) (a .n) (a .g) (a .m) ⌝ }
     ensures { λ r. ⌜ Wrote limit (now (out .entry)) at
-        (piecesAt (pathPiece (now (text .entry)) b g (namesAt (now (text .entry)) (now (work .entry)) b n g (m .first) (m .segs))) 1 (now (work .entry)) 0 (n .paths)) (now (out .exit)) r ⌝ }
+        (piecesTo (pathPiece (nodes (now (text .entry)) (now (work .entry)) (a .b) (a .n) (a .g) (a .m)) (now (text .entry)) (now (work .entry)) (a .b) (a .g)) (a .n .paths)) (now (out .exit)) r ⌝ }
 {
     let mut next = at;
-    let mut i = 0;
-    while i < n.paths {
-        next = put_path(out, next, limit, text, work, b, n, g, m, i);
-        i += 1;
+    let mut p = 0;
+    while p < a.n.paths {
+        next = put_path(out, next, limit, text, work, a, PathNo(p as u32));
+        p += 1;
     }
     next
 }

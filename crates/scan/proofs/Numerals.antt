@@ -1,14 +1,14 @@
 -- Laws of numbers that are read: digit by digit, and one leading +. Assumes nothing.
 use Prim.Native.Nat.{ℕ, _+_, _-_, _*_, _≤_, _<_}
+use native.Mathlib.Omega.{arith}
 use mathlib.Core.Path.{_≡_, refl, sym}
 use mathlib.Core.List.{List, [], _∷_}
 use mathlib.Core.Logic.{_⊎_, inl, inr}
 use mathlib.Core.Bool.{Bool, true, false, cond, _&&_, and-false}
 use mathlib.Core.Option.{Option, none, some}
-use native.Mathlib.Omega.{arith}
-use borrow.Author.Tests.{le-leb, lt-leb, ne-eqb}
 use lib.Dec.{leb}
 use lib.ListN.{length}
+use borrow.Author.Tests.{le-leb, lt-leb, ne-eqb}
 use Rattle.gfa_spec.specs.Bytes.{all, isEmpty}
 use Rattle.gfa_spec.specs.Decimal.{isDigit, valueFrom, largest64, isNumeral, unsigned, numberOf}
 use Rattle.scan.specs.Numbers.{numeral}

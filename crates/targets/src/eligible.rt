@@ -1,42 +1,41 @@
 // The eligible segments (document 01, "Folding", rule 1).
-ghost use mathlib.Core.Bool.{_&&_};
 ghost use mathlib.Core.Path.{_≡_};
-ghost use Prim.Native.Nat.{_+_, _*_, _≤_, _<_};
-ghost use lib.ListN.{length};
-ghost use Rattle.gfa_spec.specs.Bytes.{same, part};
+ghost use Prim.Native.Nat.{_<_};
 ghost use Rattle.normalize_spec.specs.Folding.{selfLinked, isUnit};
-ghost use Rattle.gfa.specs.Links.{linkAt, linksAt};
+ghost use Rattle.tables.specs.ByNumber.{linksTo, bytesIn, Inside};
 ghost use Rattle.normalize_tables.specs.Layout.{Source};
-ghost use Rattle.targets.specs.Marking.{Markable, Adds, UnitsKept, MarkedIs};
+ghost use Rattle.targets.specs.Marking.{Markable, Adds, LinkMarked, UnitsKept, MarkedIs};
 use crate::marks::mark_name;
 use crate::marks::still_marked;
-use gfa::counts::is_self_link;
-use gfa::tables::Bases;
-use gfa::tables::Counts;
 use normalize_tables::layout::Layout;
 use scan::names::is_star;
+use scan::names::same_name;
+use tables::entry::LinkNo;
+use tables::entry::SegmentNo;
+use tables::rows::Place;
+use tables::rows::link_at;
+use tables::rows::segment_at;
+use tables::tables::Bases;
+use tables::tables::Counts;
 use work::work::clear_words;
 use work::work::word;
 
 // Marks the segment of link `i`, where that is a self-link.
 pub fn mark_link(text: &[u8], work: &mut [u32], b: Bases, n: Counts, marks: usize, i: usize)
     requires { ⌜ Markable (now text) (now work) b n marks × (i < n .links) ⌝ }
-    ensures { λ _. ⌜ Adds (λ s. same (linkAt (now (text .entry)) (now (work .entry)) (b .links + 8 * i) .from) (s .id) && same (linkAt (now (text .entry)) (now (work .entry)) (b .links + 8 * i) .to) (s .id))
-        (now (text .entry)) (now (work .entry)) (now (work .exit)) b n marks ⌝ }
+    ensures { λ _. ⌜ LinkMarked (now (text .entry)) (now (work .entry)) (now (work .exit)) b n marks i ⌝ }
 {
-    let link = b.links + 8 * i;
-    if !is_self_link(text, work, link) {
+    let l = link_at(text, work, b, n, LinkNo(i as u32));
+    if !same_name(text, l.from.start, l.from.size, l.to.start, l.to.size) {
         return;
     }
-    let name = word(work, link + 2);
-    let size = word(work, link + 3);
-    mark_name(text, work, b, n, marks, name, size);
+    mark_name(text, work, b, n, marks, l.from);
 }
 
 // Marks the segments with a self-link.
 pub fn mark_self_links(text: &[u8], work: &mut [u32], b: Bases, n: Counts, marks: usize)
     requires { ⌜ Markable (now text) (now work) b n marks ⌝ }
-    ensures { λ _. ⌜ Adds (λ s. selfLinked (linksAt (now (text .entry)) (now (work .entry)) (b .links) (n .links)) (s .id)) (now (text .entry)) (now (work .entry)) (now (work .exit)) b n marks ⌝ }
+    ensures { λ _. ⌜ Adds (λ s. selfLinked (linksTo (now (text .entry)) (now (work .entry)) b (n .links)) (s .id)) (now (text .entry)) (now (work .entry)) (now (work .exit)) b n marks ⌝ }
 {
     let mut i = 0;
     while i < n.links {
@@ -46,14 +45,15 @@ pub fn mark_self_links(text: &[u8], work: &mut [u32], b: Bases, n: Counts, marks
 }
 
 // May the sequence be folded? It is not `*`, not empty, and within the cap; cap 0 is no cap.
-pub fn is_unit(text: &[u8], from: usize, size: usize, cap: usize) -> bool
-    requires { ⌜ from + size ≤ length (now text) ⌝ }
-    ensures { λ r. ⌜ r ≡ isUnit cap (part from size (now (text .entry))) ⌝ }
+pub fn is_unit(text: &[u8], unit: Place, cap: usize) -> bool
+    requires { ⌜ Inside (now text) unit ⌝ }
+    ensures { λ r. ⌜ r ≡ isUnit cap (bytesIn (now (text .entry)) unit) ⌝ }
 {
+    let size = unit.size;
     if size == 0 {
         return false;
     }
-    if is_star(text, from, size) {
+    if is_star(text, unit.start, size) {
         return false;
     }
     if cap == 0 {
@@ -69,11 +69,9 @@ pub fn keep_units(text: &[u8], work: &mut [u32], b: Bases, n: Counts, marks: usi
 {
     let mut i = 0;
     while i < n.segs {
-        let at = b.segs + 6 * i;
-        let from = word(work, at + 4);
-        let size = word(work, at + 5);
+        let s = segment_at(text, work, b, n, SegmentNo(i as u32));
         let mark = word(work, marks + i);
-        let now = still_marked(mark, is_unit(text, from, size, cap));
+        let now = still_marked(mark, is_unit(text, s.sequence, cap));
         work[marks + i] = now as u32;
         i += 1;
     }

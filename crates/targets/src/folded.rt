@@ -1,42 +1,43 @@
 // The folded segments (document 01, "Folding", rule 2): eligible ones with a maximal run of two or more equal steps on a path.
-ghost use Prim.Native.Nat.{_+_, _*_, _-_, _≤_, _<_};
+ghost use Prim.Native.Nat.{_+_, _≤_, _<_};
 ghost use lib.ListN.{length};
 ghost use Rattle.gfa_spec.specs.Bytes.{any};
 ghost use Rattle.normalize_spec.specs.Folding.{repeatsOn};
-ghost use Rattle.gfa.specs.Paths.{pathsAt};
-ghost use Rattle.gfa.specs.Passes.{StepThere};
+ghost use Rattle.tables.specs.ByNumber.{pathsTo};
 ghost use Rattle.normalize_tables.specs.Layout.{Source};
-ghost use Rattle.targets.specs.Marking.{Markable, Adds, OnMarked, AnyIs, NextMarked, PathSteps, PathMarked, BothKept, FoldedIs};
+ghost use Rattle.targets.specs.Marking.{Markable, Adds, OnMarked, AnyIs, NextMarked, PathMarked, BothKept, FoldedIs};
 use crate::marks::mark_name;
 use crate::marks::still_marked;
-use gfa::runs::run_end;
-use gfa::segments::Found;
-use gfa::segments::find_segment;
-use gfa::tables::Bases;
-use gfa::tables::Counts;
 use normalize_tables::layout::Layout;
+use runs::runs::run_from;
+use tables::entry::PathNo;
+use tables::rows::path_at;
+use tables::rows::segment_named;
+use tables::rows::step_at;
+use tables::segments::Found;
+use tables::tables::Bases;
+use tables::tables::Counts;
 use work::work::clear_words;
 use work::work::word;
 
-// Is the run of `times` steps whose first is at the word `at` one of two or more, on a marked segment?
+// Is the run of `times` steps from step `i` on one of two or more, on a marked segment?
 pub fn on_marked(
     text: &[u8],
     work: &[u32],
     b: Bases,
     n: Counts,
     marks: usize,
-    at: usize,
+    i: usize,
     times: usize,
 ) -> bool
-    requires { ⌜ Markable (now text) (now work) b n marks × StepThere (now text) (now work) at ⌝ }
-    ensures { λ r. ⌜ OnMarked (now (text .entry)) (now (work .entry)) b n marks at times r ⌝ }
+    requires { ⌜ Markable (now text) (now work) b n marks × (i < n .steps) ⌝ }
+    ensures { λ r. ⌜ OnMarked (now (text .entry)) (now (work .entry)) b n marks i times r ⌝ }
 {
     if times < 2 {
         return false;
     }
-    let name = word(work, at);
-    let size = word(work, at + 1);
-    let Found::At(found) = find_segment(text, work, b.segs, n.segs, name, size) else {
+    let step = step_at(text, work, b, n, i);
+    let Found::At(found) = segment_named(text, work, b, n, step.name) else {
         return false;
     };
     word(work, marks + found.0 as usize) == 1
@@ -51,13 +52,11 @@ pub fn any_folded(text: &[u8], work: &[u32], b: Bases, n: Counts, g: Layout) -> 
     let mut found = false;
     let mut p = 0;
     'paths: while p < n.paths {
-        let at = b.paths + 5 * p;
-        let base = b.steps + 3 * word(work, at + 3);
-        let count = word(work, at + 4);
-        let mut i = 0;
-        while i < count {
-            let end = run_end(text, work, base, i, count);
-            if on_marked(text, work, b, n, marks, base + 3 * i, end - i) {
+        let path = path_at(text, work, b, n, PathNo(p as u32));
+        let mut i = path.first;
+        while i < path.end {
+            let end = run_from(text, work, b, n, i, path.end);
+            if on_marked(text, work, b, n, marks, i, end - i) {
                 found = true;
                 break 'paths;
             }
@@ -68,61 +67,56 @@ pub fn any_folded(text: &[u8], work: &[u32], b: Bases, n: Counts, g: Layout) -> 
     found
 }
 
-// Marks the segment of the run from step `i` of a path's `count` steps, where that is one of two or more; answers where it ends.
+// Marks the segment of the run from step `i` on, of the steps before step `end`, where that is one of two or more; answers where it ends.
 pub fn mark_next(
     text: &[u8],
     work: &mut [u32],
     b: Bases,
     n: Counts,
     marks: usize,
-    base: usize,
-    count: usize,
     i: usize,
+    end: usize,
 ) -> usize
-    requires { ⌜ Markable (now text) (now work) b n marks × PathSteps (now text) (now work) b n base count × (i < count) ⌝ }
-    ensures { λ r. ⌜ NextMarked (now (text .entry)) (now (work .entry)) (now (work .exit)) b n marks base count i r ⌝ }
+    requires { ⌜ Markable (now text) (now work) b n marks × (i < end) × (end ≤ n .steps) ⌝ }
+    ensures { λ r. ⌜ NextMarked (now (text .entry)) (now (work .entry)) (now (work .exit)) b n marks i end r ⌝ }
 {
-    let end = run_end(text, work, base, i, count);
-    if end - i < 2 {
-        return end;
+    let next = run_from(text, work, b, n, i, end);
+    if next - i < 2 {
+        return next;
     }
-    let at = base + 3 * i;
-    let name = word(work, at);
-    let size = word(work, at + 1);
-    mark_name(text, work, b, n, marks, name, size);
-    end
+    let step = step_at(text, work, b, n, i);
+    mark_name(text, work, b, n, marks, step.name);
+    next
 }
 
-// Marks the segments that a path's `count` steps have a run of two or more on.
+// Marks the segments that the steps from `first` up to `end` have a run of two or more on.
 pub fn mark_path(
     text: &[u8],
     work: &mut [u32],
     b: Bases,
     n: Counts,
     marks: usize,
-    base: usize,
-    count: usize,
+    first: usize,
+    end: usize,
 )
-    requires { ⌜ Markable (now text) (now work) b n marks × PathSteps (now text) (now work) b n base count ⌝ }
-    ensures { λ _. ⌜ PathMarked (now (text .entry)) (now (work .entry)) (now (work .exit)) b n marks base count ⌝ }
+    requires { ⌜ Markable (now text) (now work) b n marks × (first ≤ end) × (end ≤ n .steps) ⌝ }
+    ensures { λ _. ⌜ PathMarked (now (text .entry)) (now (work .entry)) (now (work .exit)) b n marks first end ⌝ }
 {
-    let mut i = 0;
-    while i < count {
-        i = mark_next(text, work, b, n, marks, base, count, i);
+    let mut i = first;
+    while i < end {
+        i = mark_next(text, work, b, n, marks, i, end);
     }
 }
 
 // Marks the segments that some path has a run of two or more on.
 pub fn mark_paths(text: &[u8], work: &mut [u32], b: Bases, n: Counts, marks: usize)
     requires { ⌜ Markable (now text) (now work) b n marks ⌝ }
-    ensures { λ _. ⌜ Adds (λ s. any (repeatsOn (s .id)) (pathsAt (now (text .entry)) (b .steps) (now (work .entry)) (b .paths) (n .paths))) (now (text .entry)) (now (work .entry)) (now (work .exit)) b n marks ⌝ }
+    ensures { λ _. ⌜ Adds (λ s. any (repeatsOn (s .id)) (pathsTo (now (text .entry)) (now (work .entry)) b (n .paths))) (now (text .entry)) (now (work .entry)) (now (work .exit)) b n marks ⌝ }
 {
     let mut p = 0;
     while p < n.paths {
-        let at = b.paths + 5 * p;
-        let first = word(work, at + 3);
-        let count = word(work, at + 4);
-        mark_path(text, work, b, n, marks, b.steps + 3 * first, count);
+        let path = path_at(text, work, b, n, PathNo(p as u32));
+        mark_path(text, work, b, n, marks, path.first, path.end);
         p += 1;
     }
 }

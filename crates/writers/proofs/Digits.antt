@@ -1,8 +1,8 @@
 -- Laws of decimal numbers: a number's digits are those of its tenth, and the last one. Assumes nothing.
 use Prim.Native.Nat.{ℕ, zero, suc, _+_, _-_, _/_, _%_, _≤_, _<_}
+use native.Mathlib.Omega.{arith}
 use mathlib.Core.Path.{_≡_, sym, _∙_}
 use mathlib.Core.List.{List, [], _∷_, _++_}
-use native.Mathlib.Omega.{arith}
 use borrow.Author.Tests.{lt-ltb, le-ltb}
 use Rattle.gfa_spec.specs.Decimal.{digitsTo, decimal}
 use Rattle.gfa_spec.proofs.Parts.{by-order}

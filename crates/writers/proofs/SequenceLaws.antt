@@ -3,9 +3,9 @@ use Prim.Native.Nat.{ℕ, suc, _+_, _-_, _≤_, _<_}
 use native.Mathlib.Omega.{arith}
 use mathlib.Core.Path.{_≡_, ap, _∙_}
 use mathlib.Core.List.{List, [], _∷_, _++_, reverse, reverse-cons}
-use borrow.Author.Tests.{eq-eqb, ne-eqb, le-leb, lt-leb}
 use lib.ListN.{length, getD, take, length-map, length-reverse, List·getD-map, List·getD-append}
 use lib.Seq.{getD-at}
+use borrow.Author.Tests.{eq-eqb, ne-eqb, le-leb, lt-leb}
 use Rattle.gfa_spec.specs.Bytes.{bytes, part}
 use Rattle.gfa_spec.specs.Sequences.{complement, reverseComplement, oriented, sequencePreview}
 use Rattle.gfa_spec.proofs.Parts.{by-order, length-part, getD-part}

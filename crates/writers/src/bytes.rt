@@ -1,6 +1,5 @@
 // Byte writers. Each writes at a place of `out` as much as there is room for below `limit`, and answers the next place, which never
 // passes `limit`. So no writer has to be shown that its piece fits, no sum wraps, and on an empty buffer a writer measures.
-use crate::complement::complement;
 ghost use mathlib.Core.Path.{_≡_};
 ghost use mathlib.Core.List.{_∷_, []};
 ghost use Prim.Native.Nat.{_+_, _-_, _*_, _≤_, min};
@@ -9,9 +8,10 @@ ghost use lib.Seq.{sets};
 ghost use Rattle.gfa_spec.specs.Bytes.{part, repeat};
 ghost use Rattle.gfa_spec.specs.Sequences.{complement as complementOf, reverseComplement, oriented, sequencePreview};
 ghost use Rattle.writers.specs.Writers.{Wrote};
+use crate::complement::complement;
 
 // The smaller of two numbers.
-fn least(a: usize, b: usize) -> usize
+pub fn least(a: usize, b: usize) -> usize
     ensures { λ r. ⌜ r ≡ min a b ⌝ }
 {
     if a <= b {

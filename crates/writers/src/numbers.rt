@@ -1,9 +1,9 @@
 // Decimal numbers, written.
-use crate::bytes::put_byte;
 ghost use mathlib.Core.Path.{_≡_};
 ghost use Prim.Native.Nat.{_+_, _<_};
 ghost use Rattle.gfa_spec.specs.Decimal.{decimal};
 ghost use Rattle.writers.specs.Writers.{Wrote};
+use crate::bytes::put_byte;
 
 // The byte of a digit.
 fn digit(n: u64) -> u8

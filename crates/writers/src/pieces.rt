@@ -1,14 +1,14 @@
 // Pieces of lines that both the rewritten text and the report are made of.
-use crate::bytes::put_byte;
-use crate::bytes::put_bytes;
-use crate::bytes::put_constant;
-use crate::numbers::put_decimal;
 ghost use mathlib.Core.List.{_∷_, [], _++_};
 ghost use Prim.Native.Nat.{_+_, _≤_};
 ghost use lib.ListN.{length};
 ghost use Rattle.gfa_spec.specs.Bytes.{bytes, part, tabbed, endLine};
 ghost use Rattle.gfa_spec.specs.Decimal.{decimal};
 ghost use Rattle.writers.specs.Writers.{Wrote};
+use crate::bytes::put_byte;
+use crate::bytes::put_bytes;
+use crate::bytes::put_constant;
+use crate::numbers::put_decimal;
 
 // A part of the text as a line, ended by a line feed.
 pub fn put_line(

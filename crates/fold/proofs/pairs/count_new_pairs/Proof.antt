@@ -1,54 +1,57 @@
--- `fold::pairs::count_new_pairs` meets its contract. The loop's invariant: the pairs counted, and those of the steps that are left. Assumes nothing.
+-- `fold::pairs::count_new_pairs` meets its contract. The loop's invariant is the state of the count.
 use Prim.Native.Nat.{_-_}
-use native.Mathlib.Omega.{arith}
+use borrow.Author.Needs.{needs}
 use Rattle.fold.proofs.Pairing.{Pairing, pairing-start, pairing-more, pairing-end}
 use Rattle.fold.proofs.pairs.count_new_pairs.Statement.{statement}
 use Rattle.fold.proofs.pairs.count_new_pairs.Tie as tie
 
 abbrev Inv-loop : tie.InvT-loop
-Inv-loop work at count nodes₀ steps₀ j₀ nodes steps j = Pairing work at count j nodes steps
+Inv-loop work a first end nodes₀ steps₀ k₀ nodes steps k = Pairing work (a .n) (a .g) (a .m) first end k nodes steps
 
 abbrev μ-loop : tie.MeasureT-loop
-μ-loop work at count nodes₀ steps₀ j₀ nodes steps j = count - j
+μ-loop work a first end nodes₀ steps₀ k₀ nodes steps k = end - k
+
+add-k : tie.Need-add-k Inv-loop μ-loop
+add-k c = search needs
 
 loop-holds : tie.Need-loop-holds Inv-loop μ-loop
-loop-holds c = pairing-start (c .before .pre)
+loop-holds c = search pairing-start
 
-mul-here : tie.Need-mul-here Inv-loop μ-loop
-mul-here c = omega arith
+sub-new-step-at : tie.Need-sub-new-step-at Inv-loop μ-loop
+sub-new-step-at c = search needs
 
-add-here : tie.Need-add-here Inv-loop μ-loop
-add-here c = omega arith
+new-step-at-requires : tie.Need-new-step-at-requires Inv-loop μ-loop
+new-step-at-requires c κs = search needs
 
-sub-equal-words : tie.Need-sub-equal-words Inv-loop μ-loop
-sub-equal-words c = omega arith
+new-step-at-requires-2 : tie.Need-new-step-at-requires-2 Inv-loop μ-loop
+new-step-at-requires-2 c κs = search needs
 
-equal-words-requires : tie.Need-equal-words-requires Inv-loop μ-loop
-equal-words-requires c κs = omega (arith, c .before .loop .inv .low, c .before .loop .inv .room)
+bit-of-requires : tie.Need-bit-of-requires Inv-loop μ-loop
+bit-of-requires c κs = search needs
 
 add-nodes : tie.Need-add-nodes Inv-loop μ-loop
-add-nodes c = omega (arith, c .before .before .loop .inv .few, c .equal-words .ensures .1, c .before .before .loop .inv .high)
+add-nodes c = search needs
 
-sub-equal-steps : tie.Need-sub-equal-steps Inv-loop μ-loop
-sub-equal-steps c = omega arith
+same-new-step-requires : tie.Need-same-new-step-requires Inv-loop μ-loop
+same-new-step-requires c κs = search needs
 
-equal-steps-requires : tie.Need-equal-steps-requires Inv-loop μ-loop
-equal-steps-requires c κs = omega (arith, c .before .before .loop .inv .low, c .before .before .loop .inv .room)
+bit-of-requires-2 : tie.Need-bit-of-requires-2 Inv-loop μ-loop
+bit-of-requires-2 c κs = search needs
 
 add-steps : tie.Need-add-steps Inv-loop μ-loop
-add-steps c = omega (arith, c .before .before .before .loop .inv .few, c .equal-steps .ensures .1, c .before .before .before .loop .inv .high)
+add-steps c = search needs
 
-add-j : tie.Need-add-j Inv-loop μ-loop
-add-j c = omega arith
+add-k-2 : tie.Need-add-k-2 Inv-loop μ-loop
+add-k-2 c = search needs
 
 loop-less : tie.Need-loop-less Inv-loop μ-loop
-loop-less c = omega arith
+loop-less c = search needs
 
 loop-again : tie.Need-loop-again Inv-loop μ-loop
-loop-again c = pairing-more (c .before .before .before .loop .inv) (c .before .before .loop-test .taken) (c .before .equal-words .ensures) (c .equal-steps .ensures)
+loop-again c = search pairing-more
 
 returns : tie.Need-returns Inv-loop μ-loop
-returns c = pairing-end (c .before .loop .inv) (c .loop-test .left)
+returns c = search pairing-end
 
 pub count-new-pairs-spec : {M : Type 1} → statement M
 count-new-pairs-spec =
@@ -56,16 +59,17 @@ count-new-pairs-spec =
     (tie.spec
     Inv-loop
     μ-loop
+    add-k
     loop-holds
-    mul-here
-    add-here
-    sub-equal-words
-    equal-words-requires
+    sub-new-step-at
+    new-step-at-requires
+    new-step-at-requires-2
+    bit-of-requires
     add-nodes
-    sub-equal-steps
-    equal-steps-requires
+    same-new-step-requires
+    bit-of-requires-2
     add-steps
-    add-j
+    add-k-2
     loop-less
     loop-again
     returns)

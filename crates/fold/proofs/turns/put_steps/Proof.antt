@@ -1,45 +1,39 @@
--- `fold::turns::put_steps` meets its contract. The loop's invariant is its state at a row. Assumes nothing.
+-- `fold::turns::put_steps` meets its contract. The loop's invariant: the first rows are put.
 use Prim.Native.Nat.{_-_}
-use native.Mathlib.Omega.{arith}
+use borrow.Author.Needs.{needs}
 use Rattle.fold.proofs.Putting.{Putting, putting-start, putting-more, putting-end}
 use Rattle.fold.proofs.turns.put_steps.Statement.{statement}
 use Rattle.fold.proofs.turns.put_steps.Tie as tie
 
 abbrev Inv-loop : tie.InvT-loop
-Inv-loop work₀ at node mark count i₀ work i = Putting work₀ work at node mark count i
+Inv-loop work₀ g k r count i₀ work i = Putting work₀ work g k r count i
 
 abbrev μ-loop : tie.MeasureT-loop
-μ-loop work₀ at node mark count i₀ work i = count - i
+μ-loop work₀ g k r count i₀ work i = count - i
 
 loop-holds : tie.Need-loop-holds Inv-loop μ-loop
-loop-holds c = putting-start (c .before .pre)
+loop-holds c = search putting-start
 
-mul-put-row : tie.Need-mul-put-row Inv-loop μ-loop
-mul-put-row c = omega (arith, c .before .before .loop .inv .room, c .before .before .loop .inv .long)
+add-put-new-step : tie.Need-add-put-new-step Inv-loop μ-loop
+add-put-new-step c = search needs
 
-add-put-row : tie.Need-add-put-row Inv-loop μ-loop
-add-put-row c = omega (arith, c .before .before .loop .inv .room, c .before .before .loop .inv .long)
-
-slice-aggregate-put-row : tie.Need-slice-aggregate-put-row Inv-loop μ-loop
-slice-aggregate-put-row c = omega (arith, c .before .before .before .loop .inv .room, c .before .before .before .loop .inv .long)
-
-put-row-requires : tie.Need-put-row-requires Inv-loop μ-loop
-put-row-requires c κs = (omega (arith, c .before .before .before .loop .inv .room, c .before .before .before .loop .inv .long), (c .before .before .before .loop .inv .small .0, (c .before .before .before .loop .inv .small .1, tt)))
+put-new-step-requires : tie.Need-put-new-step-requires Inv-loop μ-loop
+put-new-step-requires c κs = search needs
 
 add-i : tie.Need-add-i Inv-loop μ-loop
-add-i c = omega (arith, c .before .before .before .before .before .before .loop .inv .room, c .before .before .before .before .before .before .loop .inv .long)
+add-i c = search needs
 
 loop-less : tie.Need-loop-less Inv-loop μ-loop
-loop-less c = omega (arith, c .before .before .before .before .before .before .loop .inv .room, c .before .before .before .before .before .before .loop .inv .long)
+loop-less c = search needs
 
 loop-again : tie.Need-loop-again Inv-loop μ-loop
-loop-again c = putting-more (c .before .before .before .before .before .before .loop .inv) (c .before .before .before .before .before .loop-test .taken) (c .before .before .put-row .ensures)
+loop-again c = search putting-more
 
 same-length : tie.Need-same-length Inv-loop μ-loop
-same-length c = c .before .loop .inv .long
+same-length c = search needs
 
 returns : tie.Need-returns Inv-loop μ-loop
-returns c = putting-end (c .before .loop .inv) (c .loop-test .left)
+returns c = search putting-end
 
 pub put-steps-spec : {M : Type 1} → statement M
 put-steps-spec =
@@ -48,10 +42,8 @@ put-steps-spec =
     Inv-loop
     μ-loop
     loop-holds
-    mul-put-row
-    add-put-row
-    slice-aggregate-put-row
-    put-row-requires
+    add-put-new-step
+    put-new-step-requires
     add-i
     loop-less
     loop-again

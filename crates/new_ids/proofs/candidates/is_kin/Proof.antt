@@ -1,7 +1,6 @@
 -- `new_ids::candidates::is_kin` meets its contract: a name, the run length, the unit.
 use borrow.Author.Needs.{needs}
 use Rattle.new_ids.proofs.Kin.{kin-number, kin-count, kin-unit}
-use Rattle.new_ids.proofs.NewRows.{row-room, unit-inside}
 use Rattle.new_ids.proofs.candidates.is_kin.Statement.{statement}
 use Rattle.new_ids.proofs.candidates.is_kin.Tie as tie
 
@@ -9,19 +8,22 @@ is-numbered-requires : tie.Need-is-numbered-requires
 is-numbered-requires c κs = search needs
 
 returns : tie.Need-returns
-returns c = kin-number _ _ _ _ _ _ _ _ (c .before .is-numbered .ensures) (c .if1 .taken)
+returns c = search kin-number
 
-row-of-requires : tie.Need-row-of-requires
-row-of-requires c κs = row-room (c .before .before .before .before .pre .0) (c .before .before .before .before .pre .1)
+new-segment-at-requires : tie.Need-new-segment-at-requires
+new-segment-at-requires c κs = search needs
 
 returns-2 : tie.Need-returns-2
-returns-2 c = kin-count _ _ _ _ _ _ _ _ (c .before .before .before .before .is-numbered .ensures) (c .before .before .before .if1 .left) (c .before .before .row-of .ensures) (c .if2 .taken)
+returns-2 c = search kin-count
+
+segment-at-requires : tie.Need-segment-at-requires
+segment-at-requires c κs = search needs
 
 same-sanitized-requires : tie.Need-same-sanitized-requires
-same-sanitized-requires c κs = (unit-inside (c .before .before .before .before .before .before .before .pre .0) (c .before .before .before .before .before .before .before .pre .1) (c .before .before .row-of .ensures), c .before .before .before .before .before .before .before .pre .2)
+same-sanitized-requires c κs = search needs
 
 returns-3 : tie.Need-returns-3
-returns-3 c = kin-unit _ _ _ _ _ _ _ _ (c .before .before .before .before .before .is-numbered .ensures) (c .before .before .before .before .if1 .left) (c .before .before .before .row-of .ensures) (c .before .if2 .left) (c .same-sanitized .ensures)
+returns-3 c = search kin-unit
 
 pub is-kin-spec : {M : Type 1} → statement M
 is-kin-spec =
@@ -29,7 +31,8 @@ is-kin-spec =
     (tie.spec
     is-numbered-requires
     returns
-    row-of-requires
+    new-segment-at-requires
     returns-2
+    segment-at-requires
     same-sanitized-requires
     returns-3)

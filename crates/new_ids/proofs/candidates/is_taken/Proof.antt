@@ -1,56 +1,44 @@
 -- `new_ids::candidates::is_taken` meets its contract. The loop's invariant is the state of the comparison.
 use Prim.Native.Nat.{_-_}
-use native.Mathlib.Omega.{arith}
-use Rattle.gfa_spec.specs.Bytes.{part}
+use borrow.Author.Needs.{needs}
+use Rattle.tables.specs.ByNumber.{bytesIn}
 use Rattle.new_ids.proofs.Kin.{Comparing, comparing-start, comparing-hit, comparing-more, comparing-end}
 use Rattle.new_ids.proofs.candidates.is_taken.Statement.{statement}
 use Rattle.new_ids.proofs.candidates.is_taken.Tie as tie
 use Rattle.normalize_spec.specs.NewNames.{newName}
 
 abbrev Inv-loop : tie.InvT-loop
-Inv-loop text work base segs id long count suffix i₀ i = Comparing text work base segs (newName (part id long text) count suffix) i
+Inv-loop text work b n id count suffix i₀ i = Comparing text work b n (newName (bytesIn text id) count suffix) i
 
 abbrev μ-loop : tie.MeasureT-loop
-μ-loop text work base segs id long count suffix i₀ i = segs - i
+μ-loop text work b n id count suffix i₀ i = n .segs - i
 
 loop-holds : tie.Need-loop-holds Inv-loop μ-loop
 loop-holds c = comparing-start
 
-mul-row : tie.Need-mul-row Inv-loop μ-loop
-mul-row c = omega arith
+cast-t11 : tie.Need-cast-t11 Inv-loop μ-loop
+cast-t11 c = search needs
 
-add-row : tie.Need-add-row Inv-loop μ-loop
-add-row c = omega arith
-
-add-word : tie.Need-add-word Inv-loop μ-loop
-add-word c = omega arith
-
-word-requires : tie.Need-word-requires Inv-loop μ-loop
-word-requires c κs = omega arith
-
-add-word-2 : tie.Need-add-word-2 Inv-loop μ-loop
-add-word-2 c = omega arith
-
-word-requires-2 : tie.Need-word-requires-2 Inv-loop μ-loop
-word-requires-2 c κs = omega arith
+segment-at-requires : tie.Need-segment-at-requires Inv-loop μ-loop
+segment-at-requires c κs = search needs
 
 is-new-name-requires : tie.Need-is-new-name-requires Inv-loop μ-loop
-is-new-name-requires c κs = let row = c .before .before .before .before .before .before .pre .2 .row (c .before .before .before .loop .i) (c .before .before .loop-test .taken) in (c .before .before .before .before .before .before .pre .0, omega (arith, row .id, c .before .word .ensures, c .word2 .ensures))
+is-new-name-requires c κs = search needs
 
 returns : tie.Need-returns Inv-loop μ-loop
-returns c = comparing-hit (c .before .before .before .before .before .loop .inv) (c .before .before .before .before .loop-test .taken) (rw (c .before .before .before .word .ensures, c .before .before .word2 .ensures) at (c .before .is-new-name .ensures)) (c .if1 .taken)
+returns c = search comparing-hit
 
 add-i : tie.Need-add-i Inv-loop μ-loop
-add-i c = omega arith
+add-i c = search needs
 
 loop-less : tie.Need-loop-less Inv-loop μ-loop
-loop-less c = omega arith
+loop-less c = search needs
 
 loop-again : tie.Need-loop-again Inv-loop μ-loop
-loop-again c = comparing-more (c .before .before .before .before .before .loop .inv) (c .before .before .before .before .loop-test .taken) (rw (c .before .before .before .word .ensures, c .before .before .word2 .ensures) at (c .before .is-new-name .ensures)) (c .if1 .left)
+loop-again c = search comparing-more
 
 returns-2 : tie.Need-returns-2 Inv-loop μ-loop
-returns-2 c = comparing-end (c .before .loop .inv) (c .loop-test .left)
+returns-2 c = search comparing-end
 
 pub is-taken-spec : {M : Type 1} → statement M
 is-taken-spec =
@@ -59,12 +47,8 @@ is-taken-spec =
     Inv-loop
     μ-loop
     loop-holds
-    mul-row
-    add-row
-    add-word
-    word-requires
-    add-word-2
-    word-requires-2
+    cast-t11
+    segment-at-requires
     is-new-name-requires
     returns
     add-i

@@ -4,8 +4,8 @@ use Rattle.new_ids.proofs.Finding.{seeking-segment, seeking-none}
 use Rattle.new_ids.proofs.ids.find_node.Statement.{statement}
 use Rattle.new_ids.proofs.ids.find_node.Tie as tie
 
-find-segment-requires : tie.Need-find-segment-requires
-find-segment-requires c κs = search needs
+segment-named-requires : tie.Need-segment-named-requires
+segment-named-requires c κs = search needs
 
 enum-known-k : tie.Need-enum-known-k
 enum-known-k c = search needs
@@ -14,25 +14,25 @@ enum-told : tie.Need-enum-told
 enum-told c = search needs
 
 find-new-requires : tie.Need-find-new-requires
-find-new-requires c κs = (c .before .before .before .before .before .pre, seeking-none (c .before .before .find-segment .ensures) (c .enum-told .given .1))
+find-new-requires c κs = (search needs, search seeking-none)
 
 returns : tie.Need-returns
 returns c = search needs
 
-cast-t12 : tie.Need-cast-t12
-cast-t12 c = search needs
+cast-t7 : tie.Need-cast-t7
+cast-t7 c = search needs
 
 returns-2 : tie.Need-returns-2
-returns-2 c = seeking-segment (c .before .before .before .before .find-segment .ensures) (c .before .before .k .given .1)
+returns-2 c = search seeking-segment
 
 pub find-node-spec : {M : Type 1} → statement M
 find-node-spec =
     tie.close
     (tie.spec
-    find-segment-requires
+    segment-named-requires
     enum-known-k
     enum-told
     find-new-requires
     returns
-    cast-t12
+    cast-t7
     returns-2)

@@ -1,5 +1,5 @@
 -- `new_ids::ids::first_number` meets its contract. The loop's invariant is the state of the search for the largest ID.
-use Prim.Native.Nat.{_-_}
+use Prim.Native.Nat.{_-_, _≤_}
 use native.Mathlib.Omega.{arith}
 use borrow.Author.Needs.{needs}
 use Rattle.new_ids.proofs.Largest.{Growing, growing-start, growing-stop, growing-more, growing-last, growing-end}
@@ -7,7 +7,7 @@ use Rattle.new_ids.proofs.ids.first_number.Statement.{statement}
 use Rattle.new_ids.proofs.ids.first_number.Tie as tie
 
 abbrev Inv-loop : tie.InvT-loop
-Inv-loop text work b n largest₀ i₀ largest i = Growing text work (b .segs) (n .segs) largest i
+Inv-loop text work b n largest₀ i₀ largest i = Growing text work b n largest i
 
 abbrev μ-loop : tie.MeasureT-loop
 μ-loop text work b n largest₀ i₀ largest i = n .segs - i
@@ -15,26 +15,14 @@ abbrev μ-loop : tie.MeasureT-loop
 loop-holds : tie.Need-loop-holds Inv-loop μ-loop
 loop-holds c = growing-start
 
-mul-row : tie.Need-mul-row Inv-loop μ-loop
-mul-row c = omega arith
+cast-t10 : tie.Need-cast-t10 Inv-loop μ-loop
+cast-t10 c = search needs
 
-add-row : tie.Need-add-row Inv-loop μ-loop
-add-row c = omega arith
-
-add-word : tie.Need-add-word Inv-loop μ-loop
-add-word c = omega arith
-
-word-requires : tie.Need-word-requires Inv-loop μ-loop
-word-requires c κs = omega arith
-
-add-word-2 : tie.Need-add-word-2 Inv-loop μ-loop
-add-word-2 c = omega arith
-
-word-requires-2 : tie.Need-word-requires-2 Inv-loop μ-loop
-word-requires-2 c κs = omega arith
+segment-at-requires : tie.Need-segment-at-requires Inv-loop μ-loop
+segment-at-requires c κs = search needs
 
 number-of-requires : tie.Need-number-of-requires Inv-loop μ-loop
-number-of-requires c κs = let row = c .before .before .before .before .before .before .before .before .pre .sound .segs .row (c .before .before .before .before .before .loop .i) (c .before .before .before .if1 .taken) in omega (arith, row .id, c .before .word .ensures, c .word2 .ensures)
+number-of-requires c κs = search needs
 
 enum-known-value : tie.Need-enum-known-value Inv-loop μ-loop
 enum-known-value c = search needs
@@ -43,28 +31,28 @@ enum-told : tie.Need-enum-told Inv-loop μ-loop
 enum-told c = search needs
 
 returns : tie.Need-returns Inv-loop μ-loop
-returns c = growing-stop (c .before .before .before .before .before .before .before .before .loop .inv) (c .before .before .before .before .before .before .if1 .taken) (rw (c .before .before .before .before .word .ensures, c .before .before .before .word2 .ensures) at (c .before .before .number-of .ensures)) (c .enum-told .given .1)
+returns c = search growing-stop
 
 larger-requires : tie.Need-larger-requires Inv-loop μ-loop
 larger-requires c κs = search needs
 
 add-i : tie.Need-add-i Inv-loop μ-loop
-add-i c = omega arith
+add-i c = search needs
 
 loop-less : tie.Need-loop-less Inv-loop μ-loop
-loop-less c = omega arith
+loop-less c = search needs
 
 loop-again : tie.Need-loop-again Inv-loop μ-loop
-loop-again c = growing-more (c .before .before .before .before .before .before .before .before .before .before .loop .inv) (c .before .before .before .before .before .before .before .before .if1 .taken) (rw (c .before .before .before .before .before .before .word .ensures, c .before .before .before .before .before .word2 .ensures) at (c .before .before .before .before .number-of .ensures)) (c .before .before .value .given .1) (omega arith) (c .larger .ensures)
+loop-again c = let small : c .before .before .value .given .0 .0 ≤ 18446744073709551615 = omega arith in search growing-more
 
 returns-2 : tie.Need-returns-2 Inv-loop μ-loop
-returns-2 c = growing-last (c .before .before .before .loop .inv) (c .before .if1 .left) (c .if2 .taken)
+returns-2 c = search growing-last
 
 add-result : tie.Need-add-result Inv-loop μ-loop
-add-result c = omega arith
+add-result c = search needs
 
 returns-3 : tie.Need-returns-3 Inv-loop μ-loop
-returns-3 c = growing-end (c .before .before .before .loop .inv) (c .before .if1 .left) (c .if2 .left)
+returns-3 c = search growing-end
 
 pub first-number-spec : {M : Type 1} → statement M
 first-number-spec =
@@ -73,12 +61,8 @@ first-number-spec =
     Inv-loop
     μ-loop
     loop-holds
-    mul-row
-    add-row
-    add-word
-    word-requires
-    add-word-2
-    word-requires-2
+    cast-t10
+    segment-at-requires
     number-of-requires
     enum-known-value
     enum-told

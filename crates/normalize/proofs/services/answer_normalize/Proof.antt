@@ -1,7 +1,7 @@
 -- `normalize::services::answer_normalize` meets its contract: the text is refused, or its tables are answered. Assumes nothing.
 use mathlib.Core.Path.{_∙_, refl}
 use borrow.Author.Needs.{needs}
-use Rattle.gfa.proofs.Serving.{was-read}
+use Rattle.reader.proofs.Serving.{was-read}
 use Rattle.normalize.proofs.Steering.{text-refused, text-answered}
 use Rattle.normalize.proofs.Tying.{read-loaded}
 use Rattle.normalize.proofs.services.answer_normalize.Statement.{statement}

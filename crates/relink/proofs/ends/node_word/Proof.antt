@@ -5,17 +5,8 @@ use Rattle.relink.proofs.Endings.{nodes-named, node-below, word-none, w
 use Rattle.relink.proofs.ends.node_word.Statement.{statement}
 use Rattle.relink.proofs.ends.node_word.Tie as tie
 
-word-requires : tie.Need-word-requires
-word-requires c κs = omega (arith, c .before .before .pre .1)
-
-add-word : tie.Need-add-word
-add-word c = omega (arith, c .before .before .before .good, c .before .before .before .pre .1)
-
-word-requires-2 : tie.Need-word-requires-2
-word-requires-2 c κs = omega (arith, c .before .before .before .pre .1)
-
 find-node-requires : tie.Need-find-node-requires
-find-node-requires c κs = (nodes-named (c .before .before .before .before .pre .0), omega (arith, c .before .before .before .before .pre .2, c .before .word .ensures, c .word2 .ensures))
+find-node-requires c κs = (search nodes-named, search needs)
 
 enum-known-k : tie.Need-enum-known-k
 enum-known-k c = search needs
@@ -24,24 +15,13 @@ enum-told : tie.Need-enum-told
 enum-told c = search needs
 
 returns : tie.Need-returns
-returns c = word-none _ (c .before .before .before .before .word .ensures) (c .before .before .before .word2 .ensures) (c .before .before .find-node .ensures) (c .enum-told .given .1)
+returns c = search word-none
 
 add-result : tie.Need-add-result
-add-result c = omega (arith, node-below (c .before .before .before .find-node .ensures) (c .before .k .given .1), c .before .before .before .before .before .before .before .before .pre .0 .source .readable .few, c .before .before .before .before .before .before .before .before .pre .0 .rows .half)
+add-result c = omega (arith, node-below (c .before .before .before .find-node .ensures) (c .before .k .given .1))
 
 returns-2 : tie.Need-returns-2
-returns-2 c = word-node _ (c .before .before .before .before .before .word .ensures) (c .before .before .before .before .word2 .ensures) (c .before .before .before .find-node .ensures) (c .before .k .given .1)
+returns-2 c = search word-node
 
 pub node-word-spec : {M : Type 1} → statement M
-node-word-spec =
-    tie.close
-    (tie.spec
-    word-requires
-    add-word
-    word-requires-2
-    find-node-requires
-    enum-known-k
-    enum-told
-    returns
-    add-result
-    returns-2)
+node-word-spec = tie.close (tie.spec find-node-requires enum-known-k enum-told returns add-result returns-2)

@@ -1,39 +1,42 @@
 -- `relink::ends::put_all_ends` meets its contract. The loop's invariant is its state at a link. Assumes nothing.
 use Prim.Native.Nat.{_-_}
-use native.Mathlib.Omega.{arith}
-use Rattle.relink.proofs.Endings.{put-small, Ending, ending-start, ending-relinkable, ending-more, ending-end}
+use borrow.Author.Needs.{needs}
+use Rattle.relink.proofs.Endings.{Ending, ending-start, ending-more, ending-end}
 use Rattle.relink.proofs.ends.put_all_ends.Statement.{statement}
 use Rattle.relink.proofs.ends.put_all_ends.Tie as tie
 
 abbrev Inv-loop : tie.InvT-loop
-Inv-loop text work₀ b n g m removed₀ i₀ work removed i = Ending text work₀ work b n g m removed i
+Inv-loop text work₀ a removed₀ i₀ work removed i = Ending text work₀ work (a .b) (a .n) (a .g) (a .m) removed i
 
 abbrev μ-loop : tie.MeasureT-loop
-μ-loop text work₀ b n g m removed₀ i₀ work removed i = n .links - i
+μ-loop text work₀ a removed₀ i₀ work removed i = a .n .links - i
 
 loop-holds : tie.Need-loop-holds Inv-loop μ-loop
-loop-holds c = ending-start (c .before .before .pre)
+loop-holds c = search ending-start
+
+cast-t10 : tie.Need-cast-t10 Inv-loop μ-loop
+cast-t10 c = search needs
 
 put-ends-requires : tie.Need-put-ends-requires Inv-loop μ-loop
-put-ends-requires c κs = (ending-relinkable (c .before .before .before .loop .inv), c .before .if1 .taken)
+put-ends-requires c κs = search needs
 
 add-removed : tie.Need-add-removed Inv-loop μ-loop
-add-removed c = omega (arith, c .before .before .before .before .before .before .loop .inv .small, c .before .before .before .before .if1 .taken, put-small (c .before .before .put-ends .ensures), c .before .before .before .before .before .before .loop .inv .relinkable .source .readable .few)
+add-removed c = search needs
 
 add-i : tie.Need-add-i Inv-loop μ-loop
-add-i c = omega (arith, c .before .before .before .before .if1 .taken, c .before .before .before .before .before .before .loop .inv .relinkable .source .readable .few)
+add-i c = search needs
 
 loop-less : tie.Need-loop-less Inv-loop μ-loop
-loop-less c = omega (arith, c .before .before .before .before .if1 .taken)
+loop-less c = search needs
 
 loop-again : tie.Need-loop-again Inv-loop μ-loop
-loop-again c = ending-more (c .before .before .before .before .before .before .loop .inv) (c .before .before .before .before .if1 .taken) (c .before .before .put-ends .ensures)
+loop-again c = search ending-more
 
 same-length : tie.Need-same-length Inv-loop μ-loop
-same-length c = omega arith
+same-length c = search needs
 
 returns : tie.Need-returns Inv-loop μ-loop
-returns c = ending-end (c .before .before .loop .inv) (c .if1 .left)
+returns c = search ending-end
 
 pub put-all-ends-spec : {M : Type 1} → statement M
 put-all-ends-spec =
@@ -42,6 +45,7 @@ put-all-ends-spec =
     Inv-loop
     μ-loop
     loop-holds
+    cast-t10
     put-ends-requires
     add-removed
     add-i

@@ -1,30 +1,29 @@
 -- `relink::settle::settle_links` meets its contract, by its two passes and the count of all self-links. Assumes nothing.
-use native.Mathlib.Omega.{arith}
 use borrow.Author.Needs.{needs}
-use Rattle.relink.proofs.Settled.{settle-linkable, settle-total, settle-readable, settle-removed, settle-few, settled}
+use Rattle.relink.proofs.Settled.{settle-removed, settle-fits, settled}
 use Rattle.relink.proofs.settle.settle_links.Statement.{statement}
 use Rattle.relink.proofs.settle.settle_links.Tie as tie
 
 put-all-ends-requires : tie.Need-put-all-ends-requires
-put-all-ends-requires c κs = c .before .before .before .pre
+put-all-ends-requires c κs = search needs
 
 add-paths-requires : tie.Need-add-paths-requires
-add-paths-requires c κs = (settle-linkable (c .before .before .before .before .before .before .before .pre) (c .before .before .before .put-all-ends .ensures), settle-total (c .before .before .before .before .before .before .before .pre) (c .before .before .before .put-all-ends .ensures))
+add-paths-requires c κs = search needs
 
 self-links-requires : tie.Need-self-links-requires
-self-links-requires c κs = settle-readable (c .before .before .before .before .before .before .before .before .before .before .before .pre) (c .before .before .before .before .before .before .before .put-all-ends .ensures) (c .before .before .before .add-paths .ensures)
+self-links-requires c κs = search needs
 
-sub-t16 : tie.Need-sub-t16
-sub-t16 c = settle-removed (c .before .before .before .before .before .before .before .before .before .before .before .before .pre) (c .before .before .before .before .before .before .before .before .put-all-ends .ensures) (c .before .before .before .before .add-paths .ensures) (c .self-links .ensures)
+sub-t13 : tie.Need-sub-t13
+sub-t13 c = search settle-removed
 
-add-t17 : tie.Need-add-t17
-add-t17 c = omega (arith, settle-few (c .before .before .before .before .before .before .before .before .before .before .before .before .before .pre) (c .before .before .before .before .before .before .before .before .before .put-all-ends .ensures) (c .before .before .before .before .before .add-paths .ensures) (c .before .self-links .ensures))
+add-t14 : tie.Need-add-t14
+add-t14 c = record { fits = search settle-fits }
 
 same-length : tie.Need-same-length
 same-length c = search needs
 
 returns : tie.Need-returns
-returns c = settled (c .before .before .before .before .before .before .before .before .before .before .before .before .before .pre) (c .before .before .before .before .before .before .before .before .before .put-all-ends .ensures) (c .before .before .before .before .before .add-paths .ensures) (c .before .self-links .ensures)
+returns c = search settled
 
 pub settle-links-spec : {M : Type 1} → statement M
 settle-links-spec =
@@ -33,7 +32,7 @@ settle-links-spec =
     put-all-ends-requires
     add-paths-requires
     self-links-requires
-    sub-t16
-    add-t17
+    sub-t13
+    add-t14
     same-length
     returns)

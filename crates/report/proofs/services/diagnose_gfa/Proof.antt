@@ -13,7 +13,7 @@ same-length-2 : tie.Need-same-length-2
 same-length-2 c = search needs
 
 returns : tie.Need-returns
-returns c = c .before .before .before .before .diagnose-gfa-with-top-n .ensures
+returns c = search needs
 
 pub diagnose-gfa-spec : {M : Type 1} → statement M
 diagnose-gfa-spec =

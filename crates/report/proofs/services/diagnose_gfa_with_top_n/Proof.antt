@@ -1,6 +1,6 @@
 -- `report::services::diagnose_gfa_with_top_n` meets its contract: the answer, and a work area that was cleared. Assumes nothing.
 use borrow.Author.Needs.{needs}
-use Rattle.gfa.proofs.Serving.{served}
+use Rattle.reader.proofs.Serving.{served}
 use Rattle.report.proofs.services.diagnose_gfa_with_top_n.Statement.{statement}
 use Rattle.report.proofs.services.diagnose_gfa_with_top_n.Tie as tie
 
@@ -17,7 +17,7 @@ same-length-2 : tie.Need-same-length-2
 same-length-2 c = search needs
 
 returns : tie.Need-returns
-returns c = served (c .before .before .before .before .before .before .before .before .answer-report .last .1 .1 .1 .0) (c .before .before .before .before .before .before .before .before .answer-report .ensures) (c .before .before .clear .ensures) (search needs)
+returns c = search served
 
 pub diagnose-gfa-with-top-n-spec : {M : Type 1} → statement M
 diagnose-gfa-with-top-n-spec =

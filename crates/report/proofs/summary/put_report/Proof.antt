@@ -5,52 +5,47 @@ use Rattle.report.proofs.Answering.{numbered, to-list, whole}
 use Rattle.report.proofs.summary.put_report.Statement.{statement}
 use Rattle.report.proofs.summary.put_report.Tie as tie
 
-mul-table : tie.Need-mul-table
-mul-table c = omega (arith, c .before .before .before .before .good, c .before .before .before .before .pre .loaded .laid)
-
-add-table : tie.Need-add-table
-add-table c = omega (arith, c .before .before .before .before .before .good, c .before .before .before .before .before .pre .loaded .laid)
-
-mul-lengths : tie.Need-mul-lengths
-mul-lengths c = omega (arith, c .before .before .before .before .before .before .good, c .before .before .before .before .before .before .pre .loaded .laid)
-
-add-lengths : tie.Need-add-lengths
-add-lengths c = omega (arith, c .before .before .before .before .before .before .good, c .before .before .before .before .before .before .pre .loaded .laid)
-
-mul-ranks : tie.Need-mul-ranks
-mul-ranks c = omega (arith, c .before .before .before .before .before .before .before .good, c .before .before .before .before .before .before .before .pre .loaded .laid)
-
-add-ranks : tie.Need-add-ranks
-add-ranks c = omega (arith, c .before .before .before .before .before .before .before .good, c .before .before .before .before .before .before .before .pre .loaded .laid)
+areas-of-requires : tie.Need-areas-of-requires
+areas-of-requires c κs = search needs
 
 put-totals-requires : tie.Need-put-totals-requires
 put-totals-requires c κs = search needs
 
 put-buckets-requires : tie.Need-put-buckets-requires
-put-buckets-requires c κs = (omega (arith, c .before .before .before .put-totals .ensures .place), numbered (c .before .before .before .before .before .before .before .before .before .before .before .before .pre))
+put-buckets-requires c κs =
+    let put-totals = c .before .before .before .put-totals in
+    let areas-of = c .before .before .before .before .before .areas-of in
+    let pre = c .before .before .before .before .before .before .before .before .before .pre in
+    (omega (arith, put-totals .ensures .place), rw (areas-of .ensures) (numbered pre))
 
 least-requires : tie.Need-least-requires
 least-requires c κs = search needs
 
 put-nodes-requires : tie.Need-put-nodes-requires
-put-nodes-requires c κs = (c .before .before .before .before .put-buckets .ensures .place, to-list (c .before .before .before .before .before .before .before .before .before .before .before .before .before .before .before .before .before .pre) _ (c .least .ensures))
+put-nodes-requires c κs =
+    let put-buckets = c .before .before .before .before .put-buckets in
+    let areas-of = c .before .before .before .before .before .before .before .before .before .before .areas-of in
+    let pre = c .before .before .before .before .before .before .before .before .before .before .before .before .before .before .pre in
+    (put-buckets .ensures .place, rw (areas-of .ensures) (to-list pre _ (c .least .ensures)))
 
 same-length : tie.Need-same-length
 same-length c = search needs
 
 returns : tie.Need-returns
-returns c = whole (c .before .before .before .before .before .before .before .before .before .before .before .before .before .before .before .before .before .before .before .before .pre) _ _ (c .before .before .before .before .before .before .before .before .before .before .before .put-totals .ensures) (c .before .before .before .before .before .before .before .put-buckets .ensures) (c .before .before .before .least .ensures) (c .before .before .put-nodes .ensures)
+returns c =
+    let pre = c .before .before .before .before .before .before .before .before .before .before .before .before .before .before .before .before .before .pre in
+    let put-totals = c .before .before .before .before .before .before .before .before .before .before .before .put-totals in
+    let areas-of = c .before .before .before .before .before .before .before .before .before .before .before .before .before .areas-of in
+    let put-buckets = c .before .before .before .before .before .before .before .put-buckets in
+    let least = c .before .before .before .least in
+    let put-nodes = c .before .before .put-nodes in
+    whole pre _ _ (put-totals .ensures) (rw (areas-of .ensures) at (put-buckets .ensures)) (least .ensures) (rw (areas-of .ensures) at (put-nodes .ensures))
 
 pub put-report-spec : {M : Type 1} → statement M
 put-report-spec =
     tie.close
     (tie.spec
-    mul-table
-    add-table
-    mul-lengths
-    add-lengths
-    mul-ranks
-    add-ranks
+    areas-of-requires
     put-totals-requires
     put-buckets-requires
     least-requires

@@ -49,7 +49,14 @@ same-length c = search needs
 
 returns : tie.Need-returns
 unfolding totalLines ended join line number bytes
-returns c = being (simp (append-assoc, append-nil)) (c .before .before .before .before .before .before .before .before .before .before .before .before .before .before .before .before .before .before .before .before .before .before .before .before .before .before .before .put-number-line .ensures ▷ c .before .before .before .before .before .before .before .before .before .before .before .before .before .before .before .before .before .before .before .before .before .before .put-number-line2 .ensures ▷ c .before .before .before .before .before .before .before .before .before .before .before .before .before .before .before .before .before .put-number-line3 .ensures ▷ c .before .before .before .before .before .before .before .before .before .before .before .before .put-number-line4 .ensures ▷ c .before .before .before .before .before .before .before .put-number-line5 .ensures ▷ c .before .before .put-number-line6 .ensures)
+returns c =
+    let put-number-line = c .before .before .before .before .before .before .before .before .before .before .before .before .before .before .before .before .before .before .before .before .before .before .before .before .before .before .before .put-number-line in
+    let put-number-line2 = c .before .before .before .before .before .before .before .before .before .before .before .before .before .before .before .before .before .before .before .before .before .before .put-number-line2 in
+    let put-number-line3 = c .before .before .before .before .before .before .before .before .before .before .before .before .before .before .before .before .before .put-number-line3 in
+    let put-number-line4 = c .before .before .before .before .before .before .before .before .before .before .before .before .put-number-line4 in
+    let put-number-line5 = c .before .before .before .before .before .before .before .put-number-line5 in
+    let put-number-line6 = c .before .before .put-number-line6 in
+    being (simp (append-assoc, append-nil)) (put-number-line .ensures ▷ put-number-line2 .ensures ▷ put-number-line3 .ensures ▷ put-number-line4 .ensures ▷ put-number-line5 .ensures ▷ put-number-line6 .ensures)
 
 pub put-totals-spec : {M : Type 1} → statement M
 put-totals-spec =

@@ -15,7 +15,7 @@ slice-aggregate-put-report : tie.Need-slice-aggregate-put-report
 slice-aggregate-put-report c = search needs
 
 put-report-requires : tie.Need-put-report-requires
-put-report-requires c κs = c .before .before .before .before .pre
+put-report-requires c κs = search needs
 
 plain-requires : tie.Need-plain-requires
 plain-requires c κs = search needs
@@ -24,10 +24,13 @@ same-length : tie.Need-same-length
 same-length c = search needs
 
 returns : tie.Need-returns
-returns c = full (c .before .before .before .before .put-report .ensures) (c .before .if1 .taken) (c .plain .ensures) (untouched (c .before .before .before .before .put-report .last .0) _ (c .before .before .before .before .put-report .kept .0))
+returns c =
+    let put-report = c .before .before .before .before .put-report in
+    let if1 = c .before .if1 in
+    full (put-report .ensures) (if1 .taken) (c .plain .ensures) (untouched (put-report .last .0) _ (put-report .kept .0))
 
 put-report-requires-2 : tie.Need-put-report-requires-2
-put-report-requires-2 c κs = c .before .before .before .before .before .before .before .before .before .pre
+put-report-requires-2 c κs = search needs
 
 plain-requires-2 : tie.Need-plain-requires-2
 plain-requires-2 c κs = search needs
@@ -36,7 +39,11 @@ same-length-2 : tie.Need-same-length-2
 same-length-2 c = search needs
 
 returns-2 : tie.Need-returns-2
-returns-2 c = fits (c .before .before .before .before .before .before .before .before .put-report .ensures) (c .before .before .before .before .before .if1 .left) (rw (untouched (c .before .before .before .before .before .before .before .before .put-report .last .0) _ (c .before .before .before .before .before .before .before .before .put-report .kept .0)) at (c .before .before .before .put-report2 .ensures)) (c .plain2 .ensures)
+returns-2 c =
+    let put-report = c .before .before .before .before .before .before .before .before .put-report in
+    let if1 = c .before .before .before .before .before .if1 in
+    let put-report2 = c .before .before .before .put-report2 in
+    fits (put-report .ensures) (if1 .left) (rw (untouched (put-report .last .0) _ (put-report .kept .0)) at (put-report2 .ensures)) (c .plain2 .ensures)
 
 pub write-report-spec : {M : Type 1} → statement M
 write-report-spec =

@@ -1,13 +1,8 @@
--- `rewrite::links::put_added_link` meets its contract: its two ends.
+-- `rewrite::links::put_added_link` meets its contract: its two ends. Assumes nothing.
 use borrow.Author.Needs.{needs}
-use Rattle.gfa_spec.specs.Bytes.{bytes}
-use Rattle.writers.proofs.Writing.{being, _▷_}
-use Rattle.rewrite.proofs.NewLines.{key-line}
+use Rattle.rewrite.proofs.NewLines.{pair-written}
 use Rattle.rewrite.proofs.links.put_added_link.Statement.{statement}
 use Rattle.rewrite.proofs.links.put_added_link.Tie as tie
-
-word-requires : tie.Need-word-requires
-word-requires c κs = search needs
 
 slice-aggregate-put-constant : tie.Need-slice-aggregate-put-constant
 slice-aggregate-put-constant c = search needs
@@ -34,14 +29,12 @@ same-length : tie.Need-same-length
 same-length c = search needs
 
 returns : tie.Need-returns
-unfolding bytes
-returns c = being (key-line _ _ _ _ (c .before .before .before .before .before .before .before .before .before .before .before .before .before .before .before .before .before .before .word .ensures)) (c .before .before .before .before .before .before .before .before .before .before .before .before .before .before .before .put-constant .ensures ▷ c .before .before .before .before .before .before .before .before .before .before .before .put-step-end .ensures ▷ c .before .before .before .before .before .before .before .put-step-end2 .ensures ▷ c .before .before .put-constant2 .ensures)
+returns c = search pair-written
 
 pub put-added-link-spec : {M : Type 1} → statement M
 put-added-link-spec =
     tie.close
     (tie.spec
-    word-requires
     slice-aggregate-put-constant
     put-constant-requires
     put-step-end-requires

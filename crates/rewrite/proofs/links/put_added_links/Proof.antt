@@ -1,43 +1,44 @@
--- `rewrite::links::put_added_links` meets its contract. The loop's invariant is its state at a link.
+-- `rewrite::links::put_added_links` meets its contract. The loop's invariant is its state at an added link. Assumes nothing.
 use Prim.Native.Nat.{_-_}
-use native.Mathlib.Omega.{arith}
-use Rattle.normalize_tables.specs.News.{namesAt}
-use Rattle.writers.proofs.Writing.{keeps}
-use Rattle.rewrite.specs.Pieces.{keyPiece}
-use Rattle.rewrite.proofs.NewLines.{key-row}
+use borrow.Author.Needs.{needs}
+use Rattle.rewrite.proofs.NewLines.{added-step, added-written}
 use Rattle.rewrite.proofs.Rowing.{Rowing, rowing-start, rowing-more, rowing-end}
+use Rattle.rewrite.specs.Pieces.{nodes, addedPiece}
 use Rattle.rewrite.proofs.links.put_added_links.Statement.{statement}
 use Rattle.rewrite.proofs.links.put_added_links.Tie as tie
 
 abbrev Inv-loop : tie.InvT-loop
-Inv-loop out₀ at limit text work b n g m extra next₀ i₀ out next i = Rowing (keyPiece (namesAt text work b n g (m .first) (m .segs)) (g .steps)) 1 limit out₀ at work (g .added) extra out next i
+Inv-loop out₀ at limit text work a extra next₀ i₀ out next i = Rowing (addedPiece (nodes text work (a .b) (a .n) (a .g) (a .m)) work (a .g)) limit out₀ at extra out next i
 
 abbrev μ-loop : tie.MeasureT-loop
-μ-loop out₀ at limit text work b n g m extra next₀ i₀ out next i = extra - i
+μ-loop out₀ at limit text work a extra next₀ i₀ out next i = extra - i
 
 loop-holds : tie.Need-loop-holds Inv-loop μ-loop
-loop-holds c = rowing-start (c .before .before .before .pre .0)
+loop-holds c = search rowing-start
 
-add-put-added-link : tie.Need-add-put-added-link Inv-loop μ-loop
-add-put-added-link c = omega arith
+add-word : tie.Need-add-word Inv-loop μ-loop
+add-word c = search needs
+
+word-requires : tie.Need-word-requires Inv-loop μ-loop
+word-requires c κs = search needs
 
 put-added-link-requires : tie.Need-put-added-link-requires Inv-loop μ-loop
-put-added-link-requires c κs = (c .before .before .before .before .before .before .before .pre .1, omega arith, key-row (c .before .before .before .before .before .before .before .pre .3) (c .before .before .loop-test .taken))
+put-added-link-requires c κs = (search needs, search added-step)
 
 add-i : tie.Need-add-i Inv-loop μ-loop
-add-i c = omega arith
+add-i c = search needs
 
 loop-less : tie.Need-loop-less Inv-loop μ-loop
-loop-less c = omega arith
+loop-less c = search needs
 
 loop-again : tie.Need-loop-again Inv-loop μ-loop
-loop-again c = rowing-more (c .before .before .before .before .before .before .loop .inv) (c .before .before .before .before .before .loop-test .taken) (omega arith) (c .before .before .put-added-link .ensures)
+loop-again c = search (rowing-more, added-written)
 
 same-length : tie.Need-same-length Inv-loop μ-loop
-same-length c = keeps (c .before .loop .inv .writing .wrote)
+same-length c = search needs
 
 returns : tie.Need-returns Inv-loop μ-loop
-returns c = rowing-end (c .before .loop .inv) (c .loop-test .left)
+returns c = search rowing-end
 
 pub put-added-links-spec : {M : Type 1} → statement M
 put-added-links-spec =
@@ -46,7 +47,8 @@ put-added-links-spec =
     Inv-loop
     μ-loop
     loop-holds
-    add-put-added-link
+    add-word
+    word-requires
     put-added-link-requires
     add-i
     loop-less

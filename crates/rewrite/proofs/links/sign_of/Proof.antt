@@ -1,4 +1,4 @@
--- `rewrite::links::sign_of` meets its contract: + or -.
+-- `rewrite::links::sign_of` meets its contract: an orientation is + or -. Assumes nothing.
 use borrow.Author.Needs.{needs}
 use Rattle.rewrite.proofs.NewLines.{orientation-minus}
 use Rattle.rewrite.proofs.links.sign_of.Statement.{statement}
@@ -8,7 +8,7 @@ returns : tie.Need-returns
 returns c = search needs
 
 returns-2 : tie.Need-returns-2
-returns-2 c = orientation-minus _ (c .before .pre) (c .if1 .left)
+returns-2 c = search orientation-minus
 
 pub sign-of-spec : {M : Type 1} → statement M
 sign-of-spec = tie.close (tie.spec returns returns-2)

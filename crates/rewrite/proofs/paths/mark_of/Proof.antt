@@ -1,4 +1,4 @@
--- `rewrite::paths::mark_of` meets its contract: by the orientation.
+-- `rewrite::paths::mark_of` meets its contract: by the orientation. Assumes nothing.
 use borrow.Author.Tests.{eq-eqb, ne-eqb}
 use Rattle.rewrite.proofs.paths.mark_of.Statement.{statement}
 use Rattle.rewrite.proofs.paths.mark_of.Tie as tie

@@ -1,7 +1,6 @@
--- `rewrite::paths::put_comma` meets its contract: by the step's number.
+-- `rewrite::paths::put_comma` meets its contract: by the step's number. Assumes nothing.
 use borrow.Author.Needs.{needs}
-use borrow.Author.Tests.{eq-eqb, ne-eqb}
-use Rattle.writers.proofs.Writing.{being}
+use Rattle.rewrite.proofs.StepFields.{comma-none, comma-some}
 use Rattle.rewrite.proofs.paths.put_comma.Statement.{statement}
 use Rattle.rewrite.proofs.paths.put_comma.Tie as tie
 
@@ -15,7 +14,7 @@ same-length : tie.Need-same-length
 same-length c = search needs
 
 returns : tie.Need-returns
-returns c = being (rw (eq-eqb _ _ (c .before .before .before .before .before .if1 .taken))) (c .before .before .put-constant .ensures)
+returns c = search comma-none
 
 put-byte-requires : tie.Need-put-byte-requires
 put-byte-requires c κs = search needs
@@ -24,7 +23,7 @@ same-length-2 : tie.Need-same-length-2
 same-length-2 c = search needs
 
 returns-2 : tie.Need-returns-2
-returns-2 c = being (rw (ne-eqb _ _ (c .before .before .before .before .if1 .left))) (c .before .before .put-byte .ensures)
+returns-2 c = search comma-some
 
 pub put-comma-spec : {M : Type 1} → statement M
 put-comma-spec =

@@ -1,19 +1,18 @@
--- `rewrite::paths::put_path` meets its contract: the line up to the field of the steps, that field, and what stands behind it.
+-- `rewrite::paths::put_path` meets its contract: the line up to the field of the steps, that field, and what stands behind it. Assumes nothing.
 use native.Mathlib.Omega.{arith}
 use borrow.Author.Needs.{needs}
-use Rattle.writers.proofs.Writing.{being, _▷_}
-use Rattle.rewrite.proofs.PathLines.{found-within, field-found, path-missing, path-written, path-inside}
+use Rattle.rewrite.proofs.PathLines.{path-missing, path-high, path-low, path-front, path-behind, path-end, path-column, path-written}
 use Rattle.rewrite.proofs.paths.put_path.Statement.{statement}
 use Rattle.rewrite.proofs.paths.put_path.Tie as tie
 
-line-of-requires : tie.Need-line-of-requires
-line-of-requires c κs = search needs
+path-at-requires : tie.Need-path-at-requires
+path-at-requires c κs = search needs
 
 column-of-requires : tie.Need-column-of-requires
 column-of-requires c κs = search needs
 
 field-at-requires : tie.Need-field-at-requires
-field-at-requires c κs = path-inside (c .before .before .before .before .before .pre .0) (c .before .before .before .before .before .pre .1) (c .before .line-of .ensures)
+field-at-requires c κs = search needs
 
 enum-known-from : tie.Need-enum-known-from
 enum-known-from c = search needs
@@ -22,40 +21,42 @@ enum-told : tie.Need-enum-told
 enum-told c = search needs
 
 put-line-requires : tie.Need-put-line-requires
-put-line-requires c κs = path-inside (c .before .before .before .before .before .before .before .before .before .pre .0) (c .before .before .before .before .before .before .before .before .before .pre .1) (c .before .before .before .before .before .line-of .ensures)
+put-line-requires c κs = search needs
 
 same-length : tie.Need-same-length
 same-length c = search needs
 
 returns : tie.Need-returns
-returns c = being (path-missing _ _ _ _ _ _ (c .before .before .before .before .before .before .before .before .line-of .ensures) (path-inside (c .before .before .before .before .before .before .before .before .before .before .before .before .pre .0) (c .before .before .before .before .before .before .before .before .before .before .before .before .pre .1) (c .before .before .before .before .before .before .before .before .line-of .ensures)) (rw (c .before .before .before .before .before .before .before .column-of .ensures) at (c .before .before .before .before .before .before .field-at .ensures)) (c .before .before .before .before .enum-told .given .1)) (c .before .before .put-line .ensures)
+returns c = search path-missing
+
+add-end : tie.Need-add-end
+add-end c =
+    let high = path-high (c .before .before .before .before .before .path-at .ensures) (c .before .before .before .before .column-of .ensures) (c .before .before .before .field-at .ensures) (c .before .from .given .1) in
+    omega arith
 
 sub-put-bytes : tie.Need-sub-put-bytes
-sub-put-bytes c = let w = found-within (path-inside (c .before .before .before .before .before .before .before .before .before .before .pre .0) (c .before .before .before .before .before .before .before .before .before .before .pre .1) (c .before .before .before .before .before .before .line-of .ensures)) (field-found (c .before .before .before .before .field-at .ensures) (c .before .before .from .given .1)) in omega arith
+sub-put-bytes c = search path-low
 
 put-bytes-requires : tie.Need-put-bytes-requires
-put-bytes-requires c κs = let inside = path-inside (c .before .before .before .before .before .before .before .before .before .before .pre .0) (c .before .before .before .before .before .before .before .before .before .before .pre .1) (c .before .before .before .before .before .before .line-of .ensures) in let w = found-within inside (field-found (c .before .before .before .before .field-at .ensures) (c .before .before .from .given .1)) in omega arith
+put-bytes-requires c κs = search path-front
 
 put-steps-requires : tie.Need-put-steps-requires
 put-steps-requires c κs = search needs
 
-add-put-rest : tie.Need-add-put-rest
-add-put-rest c = let inside = path-inside (c .before .before .before .before .before .before .before .before .before .before .before .before .before .before .before .before .before .before .pre .0) (c .before .before .before .before .before .before .before .before .before .before .before .before .before .before .before .before .before .before .pre .1) (c .before .before .before .before .before .before .before .before .before .before .before .before .before .before .line-of .ensures) in let w = found-within inside (field-found (c .before .before .before .before .before .before .before .before .before .before .before .before .field-at .ensures) (c .before .before .before .before .before .before .before .before .before .before .from .given .1)) in omega (arith, c .before .before .before .before .before .before .before .before .before .before .before .before .before .before .before .before .before .before .good, inside, w .1)
-
 put-rest-requires : tie.Need-put-rest-requires
-put-rest-requires c κs = let inside = path-inside (c .before .before .before .before .before .before .before .before .before .before .before .before .before .before .before .before .before .before .pre .0) (c .before .before .before .before .before .before .before .before .before .before .before .before .before .before .before .before .before .before .pre .1) (c .before .before .before .before .before .before .before .before .before .before .before .before .before .before .line-of .ensures) in let f = field-found (c .before .before .before .before .before .before .before .before .before .before .before .before .field-at .ensures) (c .before .before .before .before .before .before .before .before .before .before .from .given .1) in let w = found-within inside f in (inside, omega arith, w .1, rw (c .before .before .before .before .before .before .before .before .before .before .before .before .before .column-of .ensures) at (f .more))
+put-rest-requires c κs = (search needs, search path-behind, search path-end, search path-column)
 
 same-length-2 : tie.Need-same-length-2
 same-length-2 c = search needs
 
 returns-2 : tie.Need-returns-2
-returns-2 c = being (path-written _ _ _ _ _ _ (c .before .before .before .before .before .before .before .before .before .before .before .before .before .before .before .before .before .line-of .ensures) (path-inside (c .before .before .before .before .before .before .before .before .before .before .before .before .before .before .before .before .before .before .before .before .before .pre .0) (c .before .before .before .before .before .before .before .before .before .before .before .before .before .before .before .before .before .before .before .before .before .pre .1) (c .before .before .before .before .before .before .before .before .before .before .before .before .before .before .before .before .before .line-of .ensures)) (rw (c .before .before .before .before .before .before .before .before .before .before .before .before .before .before .before .before .column-of .ensures) at (c .before .before .before .before .before .before .before .before .before .before .before .before .before .before .before .field-at .ensures)) (c .before .before .before .before .before .before .before .before .before .before .before .before .before .from .given .1)) (c .before .before .before .before .before .before .before .before .before .before .put-bytes .ensures ▷ c .before .before .before .before .before .before .put-steps .ensures ▷ c .before .before .put-rest .ensures)
+returns-2 c = search path-written
 
 pub put-path-spec : {M : Type 1} → statement M
 put-path-spec =
     tie.close
     (tie.spec
-    line-of-requires
+    path-at-requires
     column-of-requires
     field-at-requires
     enum-known-from
@@ -63,10 +64,10 @@ put-path-spec =
     put-line-requires
     same-length
     returns
+    add-end
     sub-put-bytes
     put-bytes-requires
     put-steps-requires
-    add-put-rest
     put-rest-requires
     same-length-2
     returns-2)

@@ -1,39 +1,40 @@
--- `rewrite::paths::put_paths` meets its contract. The loop's invariant is its state at a path.
+-- `rewrite::paths::put_paths` meets its contract. The loop's invariant is its state at a path. Assumes nothing.
 use Prim.Native.Nat.{_-_}
-use native.Mathlib.Omega.{arith}
-use Rattle.normalize_tables.specs.News.{namesAt}
-use Rattle.writers.proofs.Writing.{keeps}
-use Rattle.rewrite.specs.Pieces.{pathPiece}
+use borrow.Author.Needs.{needs}
+use Rattle.rewrite.specs.Pieces.{nodes, pathPiece}
 use Rattle.rewrite.proofs.Rowing.{Rowing, rowing-start, rowing-more, rowing-end}
 use Rattle.rewrite.proofs.paths.put_paths.Statement.{statement}
 use Rattle.rewrite.proofs.paths.put_paths.Tie as tie
 
 abbrev Inv-loop : tie.InvT-loop
-Inv-loop out₀ at limit text work b n g m next₀ i₀ out next i = Rowing (pathPiece text b g (namesAt text work b n g (m .first) (m .segs))) 1 limit out₀ at work 0 (n .paths) out next i
+Inv-loop out₀ at limit text work a next₀ p₀ out next p = Rowing (pathPiece (nodes text work (a .b) (a .n) (a .g) (a .m)) text work (a .b) (a .g)) limit out₀ at (a .n .paths) out next p
 
 abbrev μ-loop : tie.MeasureT-loop
-μ-loop out₀ at limit text work b n g m next₀ i₀ out next i = n .paths - i
+μ-loop out₀ at limit text work a next₀ p₀ out next p = a .n .paths - p
 
 loop-holds : tie.Need-loop-holds Inv-loop μ-loop
-loop-holds c = rowing-start (c .before .before .before .pre .0)
+loop-holds c = search rowing-start
+
+cast-t12 : tie.Need-cast-t12 Inv-loop μ-loop
+cast-t12 c = search needs
 
 put-path-requires : tie.Need-put-path-requires Inv-loop μ-loop
-put-path-requires c κs = (c .before .before .before .before .before .before .before .pre .1, c .before .if1 .taken)
+put-path-requires c κs = search needs
 
-add-i : tie.Need-add-i Inv-loop μ-loop
-add-i c = omega arith
+add-p : tie.Need-add-p Inv-loop μ-loop
+add-p c = search needs
 
 loop-less : tie.Need-loop-less Inv-loop μ-loop
-loop-less c = omega arith
+loop-less c = search needs
 
 loop-again : tie.Need-loop-again Inv-loop μ-loop
-loop-again c = rowing-more (c .before .before .before .before .before .before .loop .inv) (c .before .before .before .before .if1 .taken) (omega arith) (c .before .before .put-path .ensures)
+loop-again c = search rowing-more
 
 same-length : tie.Need-same-length Inv-loop μ-loop
-same-length c = keeps (c .before .before .loop .inv .writing .wrote)
+same-length c = search needs
 
 returns : tie.Need-returns Inv-loop μ-loop
-returns c = rowing-end (c .before .before .loop .inv) (c .if1 .left)
+returns c = search rowing-end
 
 pub put-paths-spec : {M : Type 1} → statement M
 put-paths-spec =
@@ -42,8 +43,9 @@ put-paths-spec =
     Inv-loop
     μ-loop
     loop-holds
+    cast-t12
     put-path-requires
-    add-i
+    add-p
     loop-less
     loop-again
     same-length

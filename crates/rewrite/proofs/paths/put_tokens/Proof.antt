@@ -1,44 +1,42 @@
--- `rewrite::paths::put_tokens` meets its contract. The loop's invariant is its state at a step.
-use Prim.Native.Nat.{_+_, _*_, _-_}
-use native.Mathlib.Omega.{arith}
-use Rattle.gfa.specs.Paths.{kindOf}
-use Rattle.normalize_tables.specs.News.{namesAt}
-use Rattle.writers.proofs.Writing.{being, keeps}
-use Rattle.rewrite.specs.Pieces.{tokenPiece}
+-- `rewrite::paths::put_tokens` meets its contract. The loop's invariant is its state at a step. Assumes nothing.
+use Prim.Native.Nat.{_-_}
+use borrow.Author.Needs.{needs}
+use Rattle.tables.specs.Paths.{kindIn}
+use Rattle.rewrite.specs.Pieces.{nodes, tokenPiece}
 use Rattle.rewrite.proofs.Rowing.{Rowing, rowing-start, rowing-more, rowing-end}
-use Rattle.rewrite.proofs.StepFields.{token-row}
 use Rattle.rewrite.proofs.paths.put_tokens.Statement.{statement}
 use Rattle.rewrite.proofs.paths.put_tokens.Tie as tie
 
 abbrev Inv-loop : tie.InvT-loop
-Inv-loop out₀ at limit text work b n g m kind first count next₀ k₀ out next k = Rowing (tokenPiece (kindOf kind) (namesAt text work b n g (m .first) (m .segs)) (g .steps + 2 * first)) 1 limit out₀ at work 0 count out next k
+Inv-loop out₀ at limit text work a kind first end count next₀ k₀ out next k =
+    Rowing (tokenPiece (kindIn kind) (nodes text work (a .b) (a .n) (a .g) (a .m)) work (a .g) first) limit out₀ at count out next k
 
 abbrev μ-loop : tie.MeasureT-loop
-μ-loop out₀ at limit text work b n g m kind first count next₀ k₀ out next k = count - k
+μ-loop out₀ at limit text work a kind first end count next₀ k₀ out next k = count - k
+
+sub-count : tie.Need-sub-count Inv-loop μ-loop
+sub-count c = search needs
 
 loop-holds : tie.Need-loop-holds Inv-loop μ-loop
-loop-holds c = rowing-start (c .before .before .before .pre .0)
-
-add-put-token : tie.Need-add-put-token Inv-loop μ-loop
-add-put-token c = omega arith
+loop-holds c = search rowing-start
 
 put-token-requires : tie.Need-put-token-requires Inv-loop μ-loop
-put-token-requires c κs = (c .before .before .before .before .before .before .pre .1, omega (arith, c .before .before .before .before .before .before .pre .2, c .before .loop-test .taken))
+put-token-requires c κs = search needs
 
 add-k : tie.Need-add-k Inv-loop μ-loop
-add-k c = omega arith
+add-k c = search needs
 
 loop-less : tie.Need-loop-less Inv-loop μ-loop
-loop-less c = omega arith
+loop-less c = search needs
 
 loop-again : tie.Need-loop-again Inv-loop μ-loop
-loop-again c = rowing-more (c .before .before .before .before .before .loop .inv) (c .before .before .before .before .loop-test .taken) (omega arith) (being (token-row _ _ _ _ _ _) (c .before .before .put-token .ensures))
+loop-again c = search rowing-more
 
 same-length : tie.Need-same-length Inv-loop μ-loop
-same-length c = keeps (c .before .loop .inv .writing .wrote)
+same-length c = search needs
 
 returns : tie.Need-returns Inv-loop μ-loop
-returns c = rowing-end (c .before .loop .inv) (c .loop-test .left)
+returns c = search rowing-end
 
 pub put-tokens-spec : {M : Type 1} → statement M
 put-tokens-spec =
@@ -46,8 +44,8 @@ put-tokens-spec =
     (tie.spec
     Inv-loop
     μ-loop
+    sub-count
     loop-holds
-    add-put-token
     put-token-requires
     add-k
     loop-less

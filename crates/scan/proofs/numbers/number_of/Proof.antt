@@ -2,11 +2,11 @@
 use native.Mathlib.Omega.{arith}
 use mathlib.Core.Path.{_≡_, sym, ap, _∙_}
 use mathlib.Core.Logic.{⊎-elim}
+use borrow.Author.Needs.{needs}
 use Rattle.gfa_spec.specs.Decimal.{numberOf}
 use Rattle.scan.specs.Numbers.{numberAnswer}
 use Rattle.gfa_spec.proofs.Parts.{part-head, part-none}
 use Rattle.scan.proofs.Numerals.{number-signed, number-plain, number-none}
-use borrow.Author.Needs.{needs}
 use Rattle.scan.proofs.numbers.number_of.Statement.{statement}
 use Rattle.scan.proofs.numbers.number_of.Tie as tie
 

@@ -1,12 +1,12 @@
 -- `scan::numbers::value_of` meets its contract. The invariant: what the whole part reads as is what the rest reads as after v.
-use borrow.Author.Needs.{needs}
-use native.Mathlib.Omega.{arith}
 use Prim.Native.Nat.{ℕ, _+_, _-_, _≤_}
+use native.Mathlib.Omega.{arith}
 use mathlib.Core.Path.{_≡_, sym, ap, _∙_}
 use mathlib.Core.List.{List, _∷_}
 use mathlib.Core.Option.{none}
 use mathlib.Core.Logic.{inl, inr}
 use lib.ListN.{drop, getD, drop-of-length-le}
+use borrow.Author.Needs.{needs}
 use Rattle.gfa_spec.specs.Bytes.{isEmpty, part}
 use Rattle.gfa_spec.specs.Decimal.{isNumeral}
 use Rattle.scan.specs.declared.numbers.Number.the-variants.{None}

@@ -1,6 +1,6 @@
 -- `scan::places::next_line` meets its contract, by where the first line feed is. Assumes nothing.
-use Rattle.scan.proofs.LineEnds.{line-more, line-last}
 use borrow.Author.Needs.{needs}
+use Rattle.scan.proofs.LineEnds.{line-more, line-last}
 use Rattle.scan.proofs.places.next_line.Statement.{statement}
 use Rattle.scan.proofs.places.next_line.Tie as tie
 

@@ -1,6 +1,6 @@
 -- `scan::places::trimmed` meets its contract, by the last byte of the range. Assumes nothing.
-use Rattle.scan.proofs.LineEnds.{trimmed-empty, trimmed-hit, trimmed-miss}
 use borrow.Author.Needs.{needs}
+use Rattle.scan.proofs.LineEnds.{trimmed-empty, trimmed-hit, trimmed-miss}
 use Rattle.scan.proofs.places.trimmed.Statement.{statement}
 use Rattle.scan.proofs.places.trimmed.Tie as tie
 

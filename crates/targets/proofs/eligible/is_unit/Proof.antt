@@ -5,19 +5,19 @@ use Rattle.targets.proofs.eligible.is_unit.Statement.{statement}
 use Rattle.targets.proofs.eligible.is_unit.Tie as tie
 
 returns : tie.Need-returns
-returns c = unit-empty _ _ _ _ (c .before .before .pre) (c .if1 .taken)
+returns c = search unit-empty
 
 is-star-requires : tie.Need-is-star-requires
 is-star-requires c κs = search needs
 
 returns-2 : tie.Need-returns-2
-returns-2 c = unit-star _ _ _ _ (c .before .before .before .before .pre) (c .before .is-star .ensures .answer) (c .if2 .taken)
+returns-2 c = search unit-star
 
 returns-3 : tie.Need-returns-3
-returns-3 c = unit-free _ _ _ _ (c .before .before .before .before .before .pre) (c .before .before .before .if1 .left) (c .before .before .is-star .ensures .answer) (c .before .if2 .left) (c .if3 .taken)
+returns-3 c = search unit-free
 
 returns-4 : tie.Need-returns-4
-returns-4 c = unit-capped _ _ _ _ (c .before .before .before .before .before .pre) (c .before .before .before .if1 .left) (c .before .before .is-star .ensures .answer) (c .before .if2 .left) (c .if3 .left)
+returns-4 c = search unit-capped
 
 pub is-unit-spec : {M : Type 1} → statement M
 is-unit-spec = tie.close (tie.spec returns is-star-requires returns-2 returns-3 returns-4)

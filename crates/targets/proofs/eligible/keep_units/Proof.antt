@@ -1,7 +1,7 @@
 -- `targets::eligible::keep_units` meets its contract. The loop's invariant is its state at a segment. Assumes nothing.
 use Prim.Native.Nat.{_-_}
-use native.Mathlib.Omega.{arith}
-use Rattle.targets.proofs.EligibleMarks.{Leaving, leaving-start, leaving-inside, leaving-more, leaving-end}
+use borrow.Author.Needs.{needs}
+use Rattle.targets.proofs.EligibleMarks.{Leaving, leaving-start, leaving-more, leaving-end}
 use Rattle.targets.proofs.eligible.keep_units.Statement.{statement}
 use Rattle.targets.proofs.eligible.keep_units.Tie as tie
 
@@ -12,64 +12,52 @@ abbrev μ-loop : tie.MeasureT-loop
 μ-loop text work₀ b n marks cap i₀ work i = n .segs - i
 
 loop-holds : tie.Need-loop-holds Inv-loop μ-loop
-loop-holds c = leaving-start (c .before .before .pre)
-
-mul-at : tie.Need-mul-at Inv-loop μ-loop
-mul-at c = omega (arith, c .before .before .loop .inv .markable .readable .few)
-
-add-at : tie.Need-add-at Inv-loop μ-loop
-add-at c = let m = c .before .before .before .loop .inv .markable in omega (arith, c .before .before .before .before .before .before .good, c .before .if1 .taken, m .readable .laid, m .behind, m .room)
-
-add-word : tie.Need-add-word Inv-loop μ-loop
-add-word c = let m = c .before .before .before .before .loop .inv .markable in omega (arith, c .before .before .before .before .before .before .before .good, c .before .before .if1 .taken, m .readable .laid, m .behind, m .room)
-
-word-requires : tie.Need-word-requires Inv-loop μ-loop
-word-requires c κs = let m = c .before .before .before .before .loop .inv .markable in omega (arith, c .before .before .if1 .taken, m .readable .laid, m .behind, m .room, c .before .before .before .before .loop .inv .stored .long)
-
-add-word-2 : tie.Need-add-word-2 Inv-loop μ-loop
-add-word-2 c = let m = c .before .before .before .before .before .before .loop .inv .markable in omega (arith, c .before .before .before .before .before .before .before .before .before .good, c .before .before .before .before .if1 .taken, m .readable .laid, m .behind, m .room)
-
-word-requires-2 : tie.Need-word-requires-2 Inv-loop μ-loop
-word-requires-2 c κs = let m = c .before .before .before .before .before .before .loop .inv .markable in omega (arith, c .before .before .before .before .if1 .taken, m .readable .laid, m .behind, m .room, c .before .before .before .before .before .before .loop .inv .stored .long)
-
-add-word-3 : tie.Need-add-word-3 Inv-loop μ-loop
-add-word-3 c = omega (arith, c .before .before .before .before .before .before .before .before .before .before .before .good, c .before .before .before .before .before .before .if1 .taken, c .before .before .before .before .before .before .before .before .loop .inv .markable .room)
-
-word-requires-3 : tie.Need-word-requires-3 Inv-loop μ-loop
-word-requires-3 c κs = omega (arith, c .before .before .before .before .before .before .if1 .taken, c .before .before .before .before .before .before .before .before .loop .inv .markable .room, c .before .before .before .before .before .before .before .before .loop .inv .stored .long)
-
-is-unit-requires : tie.Need-is-unit-requires Inv-loop μ-loop
-is-unit-requires c κs = leaving-inside (c .before .before .before .before .before .before .before .before .before .loop .inv) (c .before .before .before .before .before .before .before .if1 .taken) (c .before .before .before .before .word .ensures) (c .before .before .word2 .ensures)
-
-still-marked-requires : tie.Need-still-marked-requires Inv-loop μ-loop
-still-marked-requires c κs = omega arith
+loop-holds c = search leaving-start
 
 cast-work : tie.Need-cast-work Inv-loop μ-loop
-cast-work c = omega (arith, c .still-marked .ensures .1)
+cast-work c = search needs
+
+segment-at-requires : tie.Need-segment-at-requires Inv-loop μ-loop
+segment-at-requires c κs = search needs
+
+add-word : tie.Need-add-word Inv-loop μ-loop
+add-word c = search needs
+
+word-requires : tie.Need-word-requires Inv-loop μ-loop
+word-requires c κs = search needs
+
+is-unit-requires : tie.Need-is-unit-requires Inv-loop μ-loop
+is-unit-requires c κs = search needs
+
+still-marked-requires : tie.Need-still-marked-requires Inv-loop μ-loop
+still-marked-requires c κs = search needs
+
+cast-work-2 : tie.Need-cast-work-2 Inv-loop μ-loop
+cast-work-2 c = search needs
 
 add-work : tie.Need-add-work Inv-loop μ-loop
-add-work c = omega (arith, c .before .before .before .before .before .before .before .before .before .before .before .before .before .before .good, c .before .before .before .before .before .before .before .before .before .if1 .taken, c .before .before .before .before .before .before .before .before .before .before .before .loop .inv .markable .room)
+add-work c = search needs
 
 mul-work : tie.Need-mul-work Inv-loop μ-loop
-mul-work c = omega arith
+mul-work c = search needs
 
 slice-write-work : tie.Need-slice-write-work Inv-loop μ-loop
-slice-write-work c = omega (arith, c .before .before .before .before .before .before .before .before .before .if1 .taken, c .before .before .before .before .before .before .before .before .before .before .before .loop .inv .markable .room, c .before .before .before .before .before .before .before .before .before .before .before .loop .inv .stored .long)
+slice-write-work c = search needs
 
 add-i : tie.Need-add-i Inv-loop μ-loop
-add-i c = omega arith
+add-i c = search needs
 
 loop-less : tie.Need-loop-less Inv-loop μ-loop
-loop-less c = omega arith
+loop-less c = search needs
 
 loop-again : tie.Need-loop-again Inv-loop μ-loop
-loop-again c = leaving-more (c .before .before .before .before .before .before .before .before .before .before .before .loop .inv) (c .before .before .before .before .before .before .before .before .before .if1 .taken) (c .before .before .before .before .before .before .word .ensures) (c .before .before .before .before .word2 .ensures) (c .before .before .word3 .ensures) (c .before .is-unit .ensures) (c .still-marked .ensures)
+loop-again c = search leaving-more
 
 same-length : tie.Need-same-length Inv-loop μ-loop
-same-length c = omega arith
+same-length c = search needs
 
 returns : tie.Need-returns Inv-loop μ-loop
-returns c = leaving-end (c .before .before .loop .inv) (c .if1 .left)
+returns c = search leaving-end
 
 pub keep-units-spec : {M : Type 1} → statement M
 keep-units-spec =
@@ -78,17 +66,13 @@ keep-units-spec =
     Inv-loop
     μ-loop
     loop-holds
-    mul-at
-    add-at
+    cast-work
+    segment-at-requires
     add-word
     word-requires
-    add-word-2
-    word-requires-2
-    add-word-3
-    word-requires-3
     is-unit-requires
     still-marked-requires
-    cast-work
+    cast-work-2
     add-work
     mul-work
     slice-write-work

@@ -1,91 +1,65 @@
 -- `targets::folded::any_folded` meets its contract. The invariants of its two loops are the states at a path and at a step of it; the search leaves
 -- both at the first run of two or more on an eligible segment. Assumes nothing.
 use Prim.Native.Nat.{_-_}
-use native.Mathlib.Omega.{arith}
-use mathlib.Core.Bool.{false}
-use mathlib.Core.Path.{_≡_, refl, _∙_}
+use borrow.Author.Needs.{needs}
 use Rattle.targets.proofs.Adding.{eligible-marks}
-use Rattle.targets.proofs.Looking.{path-room, path-few, path-step, Looking, Walking, looking-start, walking-start, looking-end, walking-end, walking-more, walking-hit, any-is}
+use Rattle.targets.proofs.Looking.{Looking, Walking, looking-start, walking-start, walking-end, walking-more, looked-none, looked-hit}
 use Rattle.targets.proofs.folded.any_folded.Statement.{statement}
 use Rattle.targets.proofs.folded.any_folded.Tie as tie
 
 abbrev Inv-loop : tie.InvT-loop
-Inv-loop text work b n marks found₀ p at base count i₀ found i = (found ≡ false) × Walking text work b n marks p base count i
+Inv-loop text work b n marks found₀ p path i₀ found i = Walking text work b n marks p (path .end) i found
 
 abbrev μ-loop : tie.MeasureT-loop
-μ-loop text work b n marks found₀ p at base count i₀ found i = count - i
+μ-loop text work b n marks found₀ p path i₀ found i = path .end - i
 
 abbrev Inv-paths : tie.InvT-paths
-Inv-paths text work b n marks found₀ p₀ found p = (found ≡ false) × Looking text work b n marks p
+Inv-paths text work b n marks found₀ p₀ found p = Looking text work b n marks p found
 
 abbrev μ-paths : tie.MeasureT-paths
 μ-paths text work b n marks found₀ p₀ found p = n .paths - p
 
 paths-holds : tie.Need-paths-holds Inv-loop μ-loop Inv-paths μ-paths
-paths-holds c = (refl, looking-start (eligible-marks (c .before .before .pre)))
+paths-holds c = search (looking-start, eligible-marks)
 
-mul-at : tie.Need-mul-at Inv-loop μ-loop Inv-paths μ-paths
-mul-at c = omega (arith, c .before .before .paths .inv .1 .markable .readable .few)
+cast-t13 : tie.Need-cast-t13 Inv-loop μ-loop Inv-paths μ-paths
+cast-t13 c = search needs
 
-add-at : tie.Need-add-at Inv-loop μ-loop Inv-paths μ-paths
-add-at c = let m = c .before .before .before .paths .inv .1 .markable in omega (arith, c .before .before .before .before .before .before .good, c .before .if1 .taken, m .readable .laid)
-
-add-word : tie.Need-add-word Inv-loop μ-loop Inv-paths μ-paths
-add-word c = let m = c .before .before .before .paths .inv .1 .markable in omega (arith, c .before .before .before .before .before .before .good, c .before .if1 .taken, m .readable .laid)
-
-word-requires : tie.Need-word-requires Inv-loop μ-loop Inv-paths μ-paths
-word-requires c κs = let m = c .before .before .before .paths .inv .1 .markable in omega (arith, c .before .if1 .taken, m .readable .laid)
-
-mul-base : tie.Need-mul-base Inv-loop μ-loop Inv-paths μ-paths
-mul-base c = let m = c .before .before .before .before .paths .inv .1 .markable in omega (arith, c .word .ensures, m .readable .sound .paths .row _ (c .before .before .if1 .taken) .steps, m .readable .few .4)
-
-add-base : tie.Need-add-base Inv-loop μ-loop Inv-paths μ-paths
-add-base c = let m = c .before .before .before .before .before .paths .inv .1 .markable in omega (arith, c .before .before .before .before .before .before .before .before .good, c .before .word .ensures, m .readable .sound .paths .row _ (c .before .before .before .if1 .taken) .steps, m .readable .laid)
-
-add-word-2 : tie.Need-add-word-2 Inv-loop μ-loop Inv-paths μ-paths
-add-word-2 c = let m = c .before .before .before .before .before .paths .inv .1 .markable in omega (arith, c .before .before .before .before .before .before .before .before .good, c .before .before .before .if1 .taken, m .readable .laid)
-
-word-requires-2 : tie.Need-word-requires-2 Inv-loop μ-loop Inv-paths μ-paths
-word-requires-2 c κs = let m = c .before .before .before .before .before .paths .inv .1 .markable in omega (arith, c .before .before .before .if1 .taken, m .readable .laid)
+path-at-requires : tie.Need-path-at-requires Inv-loop μ-loop Inv-paths μ-paths
+path-at-requires c κs = search needs
 
 loop-holds : tie.Need-loop-holds Inv-loop μ-loop Inv-paths μ-paths
-loop-holds c = (c .before .before .before .before .before .before .paths .inv .0, walking-start (c .before .before .before .before .before .before .paths .inv .1) (c .before .before .before .before .if1 .taken) (c .before .before .word .ensures) (c .word2 .ensures))
+loop-holds c = search walking-start
 
-run-end-requires : tie.Need-run-end-requires Inv-loop μ-loop Inv-paths μ-paths
-run-end-requires c κs = let s = c .before .loop .inv .1 in ((c .loop-test .taken, path-room (s .markable .readable) (s .steps)), s .steps .rows)
-
-mul-on-marked : tie.Need-mul-on-marked Inv-loop μ-loop Inv-paths μ-paths
-mul-on-marked c = let s = c .before .before .loop .inv .1 in omega (arith, c .before .loop-test .taken, path-few (s .markable .readable) (s .steps))
-
-add-on-marked : tie.Need-add-on-marked Inv-loop μ-loop Inv-paths μ-paths
-add-on-marked c = let s = c .before .before .loop .inv .1 in omega (arith, c .before .before .before .before .before .before .before .before .before .before .before .before .good, c .before .loop-test .taken, path-room (s .markable .readable) (s .steps))
+run-from-requires : tie.Need-run-from-requires Inv-loop μ-loop Inv-paths μ-paths
+run-from-requires c κs = search needs
 
 sub-on-marked : tie.Need-sub-on-marked Inv-loop μ-loop Inv-paths μ-paths
-sub-on-marked c = omega (arith, c .run-end .ensures .low)
+sub-on-marked c = search needs
 
 on-marked-requires : tie.Need-on-marked-requires Inv-loop μ-loop Inv-paths μ-paths
-on-marked-requires c κs = let s = c .before .before .loop .inv .1 in (s .markable, path-step (s .markable .readable) (s .steps) _ (c .before .loop-test .taken))
+on-marked-requires c κs = search needs
 
 loop-less : tie.Need-loop-less Inv-loop μ-loop Inv-paths μ-paths
-loop-less c = omega (arith, c .before .before .run-end .ensures .low, c .before .before .before .loop-test .taken)
+loop-less c = search needs
 
 loop-again : tie.Need-loop-again Inv-loop μ-loop Inv-paths μ-paths
-loop-again c = (c .before .before .before .before .loop .inv .0, walking-more (c .before .before .before .before .loop .inv .1) (c .before .before .run-end .ensures) (c .before .on-marked .ensures) (c .if2 .left))
+loop-again c = search walking-more
 
 add-p : tie.Need-add-p Inv-loop μ-loop Inv-paths μ-paths
-add-p c = omega (arith, c .before .loop .inv .1 .here, c .before .loop .inv .1 .markable .readable .few)
+add-p c = search needs
 
 paths-less : tie.Need-paths-less Inv-loop μ-loop Inv-paths μ-paths
-paths-less c = omega (arith, c .before .loop .inv .1 .here)
+paths-less c = search needs
 
 paths-again : tie.Need-paths-again Inv-loop μ-loop Inv-paths μ-paths
-paths-again c = (c .before .loop .inv .0, walking-end (c .before .loop .inv .1) (c .loop-test .left))
+paths-again c = search walking-end
 
 returns : tie.Need-returns Inv-loop μ-loop Inv-paths μ-paths
-returns c = any-is (λ t m. c .before .before .paths .inv .0 ∙ looking-end (c .before .before .paths .inv .1) (c .if1 .left) t m)
+returns c = search looked-none
 
 returns-2 : tie.Need-returns-2 Inv-loop μ-loop Inv-paths μ-paths
-returns-2 c = any-is (walking-hit (c .before .before .before .before .loop .inv .1) (c .before .before .run-end .ensures) (c .before .on-marked .ensures) (c .if2 .taken))
+returns-2 c = search looked-hit
 
 pub any-folded-spec : {M : Type 1} → statement M
 any-folded-spec =
@@ -96,18 +70,10 @@ any-folded-spec =
     Inv-paths
     μ-paths
     paths-holds
-    mul-at
-    add-at
-    add-word
-    word-requires
-    mul-base
-    add-base
-    add-word-2
-    word-requires-2
+    cast-t13
+    path-at-requires
     loop-holds
-    run-end-requires
-    mul-on-marked
-    add-on-marked
+    run-from-requires
     sub-on-marked
     on-marked-requires
     loop-less

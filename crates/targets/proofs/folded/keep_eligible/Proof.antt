@@ -1,6 +1,7 @@
 -- `targets::folded::keep_eligible` meets its contract. The loop's invariant is its state at a segment. Assumes nothing.
 use Prim.Native.Nat.{_-_}
 use native.Mathlib.Omega.{arith}
+use borrow.Author.Needs.{needs}
 use Rattle.targets.proofs.FoldedMarks.{Keeping, keeping-start, keeping-more, keeping-end}
 use Rattle.targets.proofs.folded.keep_eligible.Statement.{statement}
 use Rattle.targets.proofs.folded.keep_eligible.Tie as tie
@@ -12,40 +13,40 @@ abbrev μ-loop : tie.MeasureT-loop
 μ-loop work₀ g count total₀ i₀ work total i = count - i
 
 loop-holds : tie.Need-loop-holds Inv-loop μ-loop
-loop-holds c = keeping-start (c .before .pre)
+loop-holds c = search keeping-start
 
 add-word : tie.Need-add-word Inv-loop μ-loop
-add-word c = omega (arith, c .before .before .before .before .before .good, c .before .before .loop-test .taken, c .before .before .before .loop .inv .ahead, c .before .before .before .loop .inv .stored .room)
+add-word c = search needs
 
 word-requires : tie.Need-word-requires Inv-loop μ-loop
-word-requires c κs = omega (arith, c .before .before .loop-test .taken, c .before .before .before .loop .inv .ahead, c .before .before .before .loop .inv .stored .room, c .before .before .before .loop .inv .stored .long)
+word-requires c κs = search needs
 
 add-word-2 : tie.Need-add-word-2 Inv-loop μ-loop
-add-word-2 c = omega (arith, c .before .before .before .before .before .before .before .before .good, c .before .before .before .before .before .loop-test .taken, c .before .before .before .before .before .before .loop .inv .stored .room)
+add-word-2 c = search needs
 
 word-requires-2 : tie.Need-word-requires-2 Inv-loop μ-loop
-word-requires-2 c κs = omega (arith, c .before .before .before .before .before .loop-test .taken, c .before .before .before .before .before .before .loop .inv .stored .room, c .before .before .before .before .before .before .loop .inv .stored .long)
+word-requires-2 c κs = search needs
 
 still-marked-requires : tie.Need-still-marked-requires Inv-loop μ-loop
 still-marked-requires c κs = omega arith
 
 add-at : tie.Need-add-at Inv-loop μ-loop
-add-at c = omega (arith, c .before .before .before .before .before .before .before .before .before .before .before .good, c .before .before .before .before .before .before .before .before .loop-test .taken, c .before .before .before .before .before .before .before .before .before .loop .inv .stored .room)
+add-at c = search needs
 
 cast-work : tie.Need-cast-work Inv-loop μ-loop
-cast-work c = omega (arith, c .before .still-marked .ensures .1)
+cast-work c = search needs
 
 mul-work : tie.Need-mul-work Inv-loop μ-loop
 mul-work c = omega arith
 
 slice-write-work : tie.Need-slice-write-work Inv-loop μ-loop
-slice-write-work c = omega (arith, c .before .before .before .before .before .before .before .before .loop-test .taken, c .before .before .before .before .before .before .before .before .before .loop .inv .stored .room, c .before .before .before .before .before .before .before .before .before .loop .inv .stored .long)
+slice-write-work c = search needs
 
 add-total : tie.Need-add-total Inv-loop μ-loop
-add-total c = omega (arith, c .before .still-marked .ensures .1, c .before .before .before .before .before .before .before .before .before .loop .inv .few, c .before .before .before .before .before .before .before .before .loop-test .taken, c .before .before .before .before .before .before .before .before .before .loop .inv .small)
+add-total c = search needs
 
 add-i : tie.Need-add-i Inv-loop μ-loop
-add-i c = omega (arith, c .before .before .before .before .before .before .before .before .loop-test .taken, c .before .before .before .before .before .before .before .before .before .loop .inv .small)
+add-i c = search needs
 
 loop-less : tie.Need-loop-less Inv-loop μ-loop
 loop-less c = omega arith
@@ -57,7 +58,7 @@ same-length : tie.Need-same-length Inv-loop μ-loop
 same-length c = omega arith
 
 returns : tie.Need-returns Inv-loop μ-loop
-returns c = keeping-end (c .before .loop .inv) (c .loop-test .left)
+returns c = search keeping-end
 
 pub keep-eligible-spec : {M : Type 1} → statement M
 keep-eligible-spec =

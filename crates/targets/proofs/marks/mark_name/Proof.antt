@@ -1,13 +1,13 @@
 -- `targets::marks::mark_name` meets its contract: no segment has the name, or the one that has it is marked. Assumes nothing.
 use native.Mathlib.Omega.{arith}
 use borrow.Author.Needs.{needs}
-use Rattle.gfa.proofs.Spelled.{found-below}
+use Rattle.tables.proofs.Numbers.{found-below}
 use Rattle.targets.proofs.Adding.{named-none, named-marked}
 use Rattle.targets.proofs.marks.mark_name.Statement.{statement}
 use Rattle.targets.proofs.marks.mark_name.Tie as tie
 
-find-segment-requires : tie.Need-find-segment-requires
-find-segment-requires c κs = let m = c .before .before .before .pre .0 in ((c .before .before .before .pre .1, omega (arith, m .readable .laid), m .readable .few .1), m .readable .sound .segs)
+segment-named-requires : tie.Need-segment-named-requires
+segment-named-requires c κs = search needs
 
 enum-known-found : tie.Need-enum-known-found
 enum-known-found c = search needs
@@ -19,31 +19,31 @@ same-length : tie.Need-same-length
 same-length c = search needs
 
 returns : tie.Need-returns
-returns c = named-none (c .before .before .before .before .before .before .pre .0) (c .before .before .find-segment .ensures) (c .enum-told .given .1)
+returns c = search named-none
 
 cast-at : tie.Need-cast-at
 cast-at c = search needs
 
 add-at : tie.Need-add-at
-add-at c = omega (arith, c .before .before .before .before .before .before .before .before .pre .0 .room, found-below (c .before .before .before .before .find-segment .ensures) (c .before .before .found .given .1))
+add-at c = search needs
 
 mul-work : tie.Need-mul-work
 mul-work c = search needs
 
 slice-write-work : tie.Need-slice-write-work
-slice-write-work c = omega (arith, c .before .before .before .before .before .before .before .before .pre .0 .room, found-below (c .before .before .before .before .find-segment .ensures) (c .before .before .found .given .1))
+slice-write-work c = omega (arith, found-below (c .before .before .before .before .segment-named .ensures) (c .before .before .found .given .1))
 
 same-length-2 : tie.Need-same-length-2
 same-length-2 c = search needs
 
 returns-2 : tie.Need-returns-2
-returns-2 c = named-marked (c .before .before .before .before .before .before .before .before .pre .0) (c .before .before .before .before .find-segment .ensures) (c .before .before .found .given .1)
+returns-2 c = search named-marked
 
 pub mark-name-spec : {M : Type 1} → statement M
 mark-name-spec =
     tie.close
     (tie.spec
-    find-segment-requires
+    segment-named-requires
     enum-known-found
     enum-told
     same-length

@@ -1,12 +1,12 @@
 -- `work::work::clear` meets its contract. The invariant: the first i words are 0. Assumes nothing.
-use borrow.Author.Needs.{needs}
-use borrow.Author.Fill.{fill-more}
-use native.Mathlib.Omega.{arith}
 use Prim.Native.Nat.{_-_, _≤_}
+use native.Mathlib.Omega.{arith}
 use mathlib.Core.Path.{_≡_}
 use mathlib.Core.List.{_++_, append-nil}
 use lib.ListN.{length, drop, replicate, length-set}
 use lib.Seq.{drop-length}
+use borrow.Author.Needs.{needs}
+use borrow.Author.Fill.{fill-more}
 use Rattle.work.proofs.work.clear.Statement.{statement}
 use Rattle.work.proofs.work.clear.Tie as tie
 

@@ -1,10 +1,10 @@
 -- `writers::bytes::put_bytes` meets its contract. The invariant: the first i bytes of the part stand in the buffer.
-use borrow.Author.Needs.{needs}
-use native.Mathlib.Omega.{arith}
 use Prim.Native.Nat.{_-_, _≤_}
+use native.Mathlib.Omega.{arith}
 use mathlib.Core.Path.{_≡_, sym}
 use lib.ListN.{length, take, length-set}
 use lib.Seq.{sets}
+use borrow.Author.Needs.{needs}
 use Rattle.gfa_spec.specs.Bytes.{part}
 use Rattle.gfa_spec.proofs.Parts.{length-part, getD-part}
 use Rattle.writers.proofs.Writing.{turn, turned}

@@ -1,8 +1,8 @@
 -- `writers::bytes::put_oriented` meets its contract: by the orientation.
 use mathlib.Core.Path.{sym}
+use borrow.Author.Needs.{needs}
 use Rattle.writers.proofs.Writing.{being}
 use Rattle.writers.proofs.SequenceLaws.{oriented-back, oriented-on}
-use borrow.Author.Needs.{needs}
 use Rattle.writers.proofs.bytes.put_oriented.Statement.{statement}
 use Rattle.writers.proofs.bytes.put_oriented.Tie as tie
 

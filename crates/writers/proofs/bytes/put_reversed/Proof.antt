@@ -1,10 +1,10 @@
 -- `writers::bytes::put_reversed` meets its contract. The invariant: the first i bytes of the reverse complement stand in the buffer.
-use borrow.Author.Needs.{needs}
-use native.Mathlib.Omega.{arith}
 use Prim.Native.Nat.{_-_, _≤_}
+use native.Mathlib.Omega.{arith}
 use mathlib.Core.Path.{_≡_}
 use lib.ListN.{length, take, length-set}
 use lib.Seq.{sets}
+use borrow.Author.Needs.{needs}
 use Rattle.gfa_spec.specs.Bytes.{part}
 use Rattle.gfa_spec.specs.Sequences.{complement, reverseComplement}
 use Rattle.gfa_spec.proofs.Parts.{length-part}

@@ -1,9 +1,9 @@
 -- `writers::complement::complement` meets its contract: each arm by its keys.
+use Prim.Native.Nat.{ℕ}
 use mathlib.Core.Path.{_≡_, refl}
 use mathlib.Core.Logic.{_⊎_, inl, inr, ⊎-elim}
 use mathlib.Core.Bool.{false, _||_}
 use lib.Dec.{eqb}
-use Prim.Native.Nat.{ℕ}
 use borrow.Author.Tests.{ne-eqb}
 use Rattle.gfa_spec.specs.Sequences.{complement}
 use Rattle.writers.proofs.complement.complement.Statement.{statement}

@@ -1,10 +1,10 @@
 -- `writers::numbers::put_decimal` meets its contract. The measure is the number.
-use Rattle.writers.proofs.Writing.{being, _▷_}
-use Rattle.writers.proofs.Digits.{decimal-small, decimal-more}
-use borrow.Author.Needs.{needs}
 use Prim.Native.Nat.{ℕ, _<_}
+use borrow.Author.Needs.{needs}
 use borrow.Fn.Kinds.{In}
 use borrow.Fn.PlainCycle.{Measures, is, falls, and}
+use Rattle.writers.proofs.Writing.{being, _▷_}
+use Rattle.writers.proofs.Digits.{decimal-small, decimal-more}
 use Rattle.writers.proofs.numbers.put_decimal.Reads as put-decimal
 use Rattle.writers.proofs.numbers.put_decimal.Kinds as put-decimal-kinds
 use Rattle.writers.proofs.numbers.+put_decimal.Lts-put_decimal as put-decimal-lts

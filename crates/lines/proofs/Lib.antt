@@ -1,0 +1,4 @@
+-- Laws of a line.
+pub mod LineSorts
+pub mod Room
+pub mod Adding

@@ -1,0 +1,139 @@
+-- Pieces of a node's lines. Assumes nothing.
+use Prim.Native.Nat.{ℕ, zero, suc, _+_, _-_, _≤_, _<_}
+use native.Mathlib.Decide.{ℕ-discrete}
+use native.Mathlib.Omega.{arith}
+use mathlib.Core.Bool.{Bool, true, cond, _&&_}
+use mathlib.Core.List.{List, [], _∷_, _++_, map, append-assoc, append-nil}
+use mathlib.Core.Path.{_≡_, refl, sym, ap, _∙_}
+use lib.Dec.{eqb}
+use lib.ListN.{length}
+use borrow.Author.Tests.{ne-eqb}
+use Rattle.gfa_spec.specs.Bytes.{Part, bytes, bytesOf, same, star, nth, part, join, joinWith, endLine, ended}
+use Rattle.gfa_spec.specs.Reading.{Step, Kind, P, W, fields, nowhere}
+use Rattle.gfa_spec.proofs.Tests.{and-left, and-right, same-equal}
+use Rattle.scan.specs.declared.places.Field.{Field}
+use Rattle.scan.specs.declared.places.Field.the-variants.{Found, Missing}
+use Rattle.scan.specs.Places.{partAt, FoundAt, FewFields, FieldIs}
+use Rattle.tables.specs.declared.tables.Bases.{Bases}
+use Rattle.tables.specs.declared.tables.Counts.{Counts}
+use Rattle.tables.specs.declared.rows.PathWords.{PathWords}
+use Rattle.tables.specs.ByNumber.{stepsFrom, tablesEnd, PathIs}
+use Rattle.tables.specs.Paths.{kindIn, pathFields}
+use Rattle.report_spec.specs.Nodes.{pathName}
+use Rattle.writers.specs.Writers.{Wrote}
+use Rattle.report_spec.specs.Lines.{nodeLines}
+use Rattle.nodes.specs.declared.counters.Counter.{Counter}
+use Rattle.nodes.specs.declared.nodes.NodeWords.{NodeWords}
+use Rattle.nodes.specs.Table.{counterNo, NodeRead}
+use Rattle.node_lines.specs.NodeLines.{hasPair, pairsFrom, pairPiece, nameColumn, pathFrom, nodeFrom, nodeIn}
+
+-- ---- orientation pairs
+
+-- the pairs of so many bits are the four pieces
+piecesOf : ℕ → List ℕ
+piecesOf bits = pairPiece bits 1 43 43 ++ (pairPiece bits 2 43 45 ++ (pairPiece bits 4 45 43 ++ pairPiece bits 8 45 45))
+
+right : ℕ → Bool
+right bits = same (joinWith 44 (pairsFrom bits)) (piecesOf bits)
+
+below : ℕ → Bool
+below zero = true
+below (suc n) = right n && below n
+
+below-at : (n k : ℕ) → below n ≡ true → k < n → right k ≡ true
+unfolding below
+below-at zero k e h = absurd (omega arith)
+below-at (suc n) k e h = go (ℕ-discrete k n) (λ l. below-at n k (and-right (right n) (below n) e) l)
+  where
+    go : Dec (k ≡ n) → (k < n → right k ≡ true) → right k ≡ true
+    go (yes z) r = rw z (and-left (right n) (below n) e)
+    go (no z) r = r (omega arith)
+
+computed : below 16 ≡ true
+unfolding below right piecesOf same joinWith pairsFrom pairPiece hasPair bytes
+computed = refl
+
+pub pairs-pieces : (bits : ℕ) → bits < 16 → joinWith 44 (pairsFrom bits) ≡ pairPiece bits 1 43 43 ++ (pairPiece bits 2 43 45 ++ (pairPiece bits 4 45 43 ++ pairPiece bits 8 45 45))
+unfolding right piecesOf
+pairs-pieces bits h = same-equal (joinWith 44 (pairsFrom bits)) (piecesOf bits) (below-at 16 bits computed h)
+
+-- ---- the name of a path
+
+-- a part of no bytes
+pub no-part : (text : List ℕ) → part 0 0 text ≡ []
+unfolding part
+no-part text = refl
+
+-- field k of a line
+field-there : (fs : List Part) (k : ℕ) (more : List (List ℕ)) → k < length fs → nth k (map bytesOf fs ++ more) [] ≡ nth k fs nowhere .bytes
+unfolding nth bytesOf
+field-there [] k more h = absurd (omega arith)
+field-there (f ∷ fs) zero more h = refl
+field-there (f ∷ fs) (suc k) more h = field-there fs k more (omega arith)
+
+field-gone : (fs : List Part) (k : ℕ) → length fs ≤ k → nth k (map bytesOf fs) [] ≡ []
+unfolding nth bytesOf
+field-gone [] k h = refl
+field-gone (f ∷ fs) zero h = absurd (omega arith)
+field-gone (f ∷ fs) (suc k) h = field-gone fs k (omega arith)
+
+-- the name by the kind of the path
+name-of : (k : Kind) (fs : List Part) (ss : List Step) → pathName (record { kind = k; fields = pathFields k fs; steps = ss }) ≡ nth (nameColumn k) (pathFields k fs) []
+unfolding pathName nameColumn
+name-of P fs ss = refl
+name-of W fs ss = refl
+
+kind-there : (k : Kind) (fs : List Part) → nameColumn k < length fs → nth (nameColumn k) (pathFields k fs) [] ≡ nth (nameColumn k) fs nowhere .bytes
+unfolding pathFields nameColumn
+kind-there P fs h = field-there fs 1 (cond (eqb (length fs) 3) (star ∷ []) []) h
+kind-there W fs h = ap (λ l. nth 3 l []) (sym (append-nil (map bytesOf fs))) ∙ field-there fs 3 [] h
+
+kind-gone : (k : Kind) (fs : List Part) → length fs ≤ nameColumn k → nth (nameColumn k) (pathFields k fs) [] ≡ []
+unfolding pathFields nameColumn
+kind-gone P fs h = rw (ne-eqb (length fs) 3 (λ z. omega arith), append-nil) (field-gone fs 1 h)
+kind-gone W fs h = field-gone fs 3 h
+
+-- a field that is found is a part of the text
+pub found-inside : {text : List ℕ} {start size k a l : ℕ} {r : Field} → FieldIs text start size k r → r ≡ Found a l → a + l ≤ length text
+found-inside {text} {start} {size} {k} {a} {l} f e = go (rw e at (f .says))
+  where
+    go : FoundAt text start size k a l → a + l ≤ length text
+    go q = q .inside
+
+module _ {text work : List ℕ} {b : Bases} {n : Counts} {number : ℕ} {p : PathWords} {r : Field} (some : number ≡ 0 → ⊥) (is : PathIs text work b n (number - 1) p)
+    (f : FieldIs text (p .line .start) (p .line .size) (nameColumn (kindIn (p .kind))) r) where
+  its-fields : List Part
+  its-fields = fields (partAt text (p .line .start) (p .line .size))
+
+  named : pathFrom text work b number ≡ nth (nameColumn (kindIn (p .kind))) (pathFields (kindIn (p .kind)) its-fields) []
+  unfolding pathFrom its-fields
+  named = rw (ne-eqb number 0 some, is .path) (name-of (kindIn (p .kind)) its-fields (stepsFrom text work b (p .first) (p .end)))
+
+  -- the name is a field of the line, or there is none
+  pub path-found : {a l : ℕ} → r ≡ Found a l → part a l text ≡ pathFrom text work b number
+  unfolding its-fields partAt
+  path-found {a} {l} e = go (rw e at (f .says))
+    where
+      go : FoundAt text (p .line .start) (p .line .size) (nameColumn (kindIn (p .kind))) a l → part a l text ≡ pathFrom text work b number
+      go q = sym (named ∙ kind-there (kindIn (p .kind)) its-fields (q .more) ∙ ap (λ p. p .bytes) (q .field))
+
+  pub path-missing : r ≡ Missing → part 0 0 text ≡ pathFrom text work b number
+  unfolding its-fields
+  path-missing e = no-part text ∙ go (rw e at (f .says))
+    where
+      go : FewFields text (p .line .start) (p .line .size) (nameColumn (kindIn (p .kind))) → [] ≡ pathFrom text work b number
+      go q = sym (named ∙ kind-gone (kindIn (p .kind)) its-fields (q .few))
+
+-- ---- the thirteen lines
+
+pub thirteen : (a b c d e f g h i j k l m : List ℕ) →
+    (((ended (a ∷ b ∷ c ∷ []) ++ endLine d) ++ ended (e ∷ f ∷ [])) ++ ended (g ∷ h ∷ i ∷ j ∷ k ∷ l ∷ [])) ++ endLine m ≡
+    ended (a ∷ b ∷ c ∷ d ∷ e ∷ f ∷ g ∷ h ∷ i ∷ j ∷ k ∷ l ∷ m ∷ [])
+unfolding ended join
+thirteen a b c d e f g h i j k l m = simp (append-assoc, append-nil)
+
+-- the node of row k
+pub node-written : (text : List ℕ) (b : Bases) (n : Counts) {limit at r table k : ℕ} {out out' work : List ℕ} {w : NodeWords} {c : Counter} → table ≡ tablesEnd b n → NodeRead work table k w → c ≡ counterNo work table k
+    → Wrote limit out at (ended (nodeLines (nodeFrom text work b w c))) out' r → Wrote limit out at (ended (nodeLines (nodeIn text work b n k))) out' r
+unfolding nodeIn
+node-written text b n e p q v = rw (← e, ← p .is, ← q) v

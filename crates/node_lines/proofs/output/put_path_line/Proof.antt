@@ -1,0 +1,95 @@
+-- `node_lines::output::put_path_line` meets its contract: no path, or the field of its line that holds its name. Assumes nothing.
+use mathlib.Core.List.{_∷_, _++_}
+use mathlib.Core.Path.{ap}
+use borrow.Author.Needs.{needs}
+use Rattle.gfa_spec.specs.Bytes.{bytes, endLine}
+use Rattle.node_lines.proofs.Pieces.{found-inside, path-found, path-missing, no-part}
+use Rattle.node_lines.proofs.output.put_path_line.Statement.{statement}
+use Rattle.node_lines.proofs.output.put_path_line.Tie as tie
+use Rattle.node_lines.specs.NodeLines.{pathFrom}
+use Rattle.report_spec.specs.Lines.{line}
+use Rattle.writers.proofs.Writing.{being}
+
+slice-aggregate-put-value-line : tie.Need-slice-aggregate-put-value-line
+slice-aggregate-put-value-line c = search needs
+
+put-value-line-requires : tie.Need-put-value-line-requires
+put-value-line-requires c κs = search needs
+
+same-length : tie.Need-same-length
+same-length c = search needs
+
+returns : tie.Need-returns
+unfolding line bytes pathFrom
+returns c = being (rw ((c .before .before .before .before .before .if1 .taken), no-part)) (c .before .before .put-value-line .ensures)
+
+sub-t21 : tie.Need-sub-t21
+sub-t21 c = search needs
+
+cast-t22 : tie.Need-cast-t22
+cast-t22 c = search needs
+
+path-at-requires : tie.Need-path-at-requires
+path-at-requires c κs = search needs
+
+name-column-requires : tie.Need-name-column-requires
+name-column-requires c κs = search needs
+
+field-at-requires : tie.Need-field-at-requires
+field-at-requires c κs = search needs
+
+enum-known-name : tie.Need-enum-known-name
+enum-known-name c = search needs
+
+enum-told : tie.Need-enum-told
+enum-told c = search needs
+
+slice-aggregate-put-value-line-2 : tie.Need-slice-aggregate-put-value-line-2
+slice-aggregate-put-value-line-2 c = search needs
+
+put-value-line-requires-2 : tie.Need-put-value-line-requires-2
+put-value-line-requires-2 c κs = search needs
+
+same-length-2 : tie.Need-same-length-2
+same-length-2 c = search needs
+
+returns-2 : tie.Need-returns-2
+unfolding line bytes
+returns-2 c = being (ap (λ v. endLine (bytes "max_repeat_run_path" ++ (61 ∷ v))) (path-missing (c .before .before .before .before .before .before .before .before .before .before .if1 .left) (c .before .before .before .before .before .before .before .before .before .path-at .ensures) (rw (c .before .before .before .before .before .before .before .before .name-column .ensures) at (c .before .before .before .before .before .before .before .field-at .ensures)) (c .before .before .before .before .before .enum-told .given .1))) (c .before .before .put-value-line2 .ensures)
+
+slice-aggregate-put-value-line-3 : tie.Need-slice-aggregate-put-value-line-3
+slice-aggregate-put-value-line-3 c = search needs
+
+put-value-line-requires-3 : tie.Need-put-value-line-requires-3
+put-value-line-requires-3 c κs = found-inside (c .before .before .before .before .before .field-at .ensures) (c .before .before .before .name .given .1)
+
+same-length-3 : tie.Need-same-length-3
+same-length-3 c = search needs
+
+returns-3 : tie.Need-returns-3
+unfolding line bytes
+returns-3 c = being (ap (λ v. endLine (bytes "max_repeat_run_path" ++ (61 ∷ v))) (path-found (c .before .before .before .before .before .before .before .before .before .before .before .if1 .left) (c .before .before .before .before .before .before .before .before .before .before .path-at .ensures) (rw (c .before .before .before .before .before .before .before .before .before .name-column .ensures) at (c .before .before .before .before .before .before .before .before .field-at .ensures)) (c .before .before .before .before .before .before .name .given .1))) (c .before .before .put-value-line3 .ensures)
+
+pub put-path-line-spec : {M : Type 1} → statement M
+put-path-line-spec =
+    tie.close
+    (tie.spec
+    slice-aggregate-put-value-line
+    put-value-line-requires
+    same-length
+    returns
+    sub-t21
+    cast-t22
+    path-at-requires
+    name-column-requires
+    field-at-requires
+    enum-known-name
+    enum-told
+    slice-aggregate-put-value-line-2
+    put-value-line-requires-2
+    same-length-2
+    returns-2
+    slice-aggregate-put-value-line-3
+    put-value-line-requires-3
+    same-length-3
+    returns-3)

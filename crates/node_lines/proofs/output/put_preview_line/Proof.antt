@@ -1,0 +1,74 @@
+-- `node_lines::output::put_preview_line` meets its contract: no segment, or the preview of its sequence. Assumes nothing.
+use borrow.Author.Needs.{needs}
+use borrow.Author.Tests.{ne-eqb}
+use Rattle.gfa_spec.specs.Bytes.{bytes, endLine}
+use Rattle.report_spec.specs.Lines.{line}
+use Rattle.node_lines.proofs.output.put_preview_line.Statement.{statement}
+use Rattle.node_lines.proofs.output.put_preview_line.Tie as tie
+use Rattle.node_lines.specs.NodeLines.{previewFrom}
+use Rattle.writers.proofs.Writing.{being, _▷_}
+
+slice-aggregate-put-constant : tie.Need-slice-aggregate-put-constant
+slice-aggregate-put-constant c = search needs
+
+put-constant-requires : tie.Need-put-constant-requires
+put-constant-requires c κs = search needs
+
+put-byte-requires : tie.Need-put-byte-requires
+put-byte-requires c κs = search needs
+
+same-length : tie.Need-same-length
+same-length c = search needs
+
+returns : tie.Need-returns
+unfolding endLine line bytes previewFrom
+returns c =
+    let if1 = c .before .before .before .before .if1 in
+    let put-constant = c .before .before .before .before .before .before .before .put-constant in
+    let put-byte = c .before .before .put-byte in
+    being (rw (if1 .taken)) ((put-constant .ensures) ▷ (put-byte .ensures))
+
+sub-t20 : tie.Need-sub-t20
+sub-t20 c = search needs
+
+cast-t21 : tie.Need-cast-t21
+cast-t21 c = search needs
+
+segment-at-requires : tie.Need-segment-at-requires
+segment-at-requires c κs = search needs
+
+put-preview-requires : tie.Need-put-preview-requires
+put-preview-requires c κs = search needs
+
+put-byte-requires-2 : tie.Need-put-byte-requires-2
+put-byte-requires-2 c κs = search needs
+
+same-length-2 : tie.Need-same-length-2
+same-length-2 c = search needs
+
+returns-2 : tie.Need-returns-2
+unfolding endLine line bytes previewFrom
+returns-2 c =
+    let if1 = c .before .before .before .before .before .before .before .before .before .if1 in
+    let segment-at = c .before .before .before .before .before .before .before .before .segment-at in
+    let put-constant = c .before .before .before .before .before .before .before .before .before .before .before .before .put-constant in
+    let put-preview = c .before .before .before .before .before .before .put-preview in
+    let put-byte2 = c .before .before .put-byte2 in
+    being (rw (ne-eqb _ 0 (if1 .left), segment-at .ensures .segment)) ((put-constant .ensures) ▷ (put-preview .ensures) ▷ (put-byte2 .ensures))
+
+pub put-preview-line-spec : {M : Type 1} → statement M
+put-preview-line-spec =
+    tie.close
+    (tie.spec
+    slice-aggregate-put-constant
+    put-constant-requires
+    put-byte-requires
+    same-length
+    returns
+    sub-t20
+    cast-t21
+    segment-at-requires
+    put-preview-requires
+    put-byte-requires-2
+    same-length-2
+    returns-2)

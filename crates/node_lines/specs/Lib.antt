@@ -1,0 +1,3 @@
+-- What the contracts of the nodes' lines say.
+pub mod NodeLines
+pub mod Groups

@@ -1,0 +1,3 @@
+// The lines of the nodes, and the buckets of their lengths.
+pub mod buckets;
+pub mod output;

@@ -1,0 +1,3 @@
+-- What the contracts of the node table say.
+pub mod Counters
+pub mod Table

@@ -1,0 +1,3 @@
+-- What the contracts of the order say.
+pub mod Sorting
+pub mod Ranking

@@ -1,0 +1,51 @@
+-- `reader::input::read_text` meets its contract. Assumes nothing.
+use borrow.Author.Needs.{needs}
+use Rattle.reader.proofs.Admitting.{text-read, text-refused}
+use Rattle.reader.proofs.Tallying.{tally-few, tally-roomy}
+use Rattle.reader.proofs.input.read_text.Statement.{statement}
+use Rattle.reader.proofs.input.read_text.Tie as tie
+
+count-text-requires : tie.Need-count-text-requires
+count-text-requires c κs = search needs
+
+bases-of-requires : tie.Need-bases-of-requires
+bases-of-requires c κs = tally-few _ (c .count-text .ensures) (c .before .before .before .pre .0)
+
+read-lines-requires : tie.Need-read-lines-requires
+read-lines-requires c κs = rw (c .before .bases-of .ensures) (tally-roomy _ (c .before .before .count-text .ensures) (c .before .before .before .before .before .pre .0) (c .before .before .before .before .before .pre .1))
+
+enum-known-answer : tie.Need-enum-known-answer
+enum-known-answer c = search needs
+
+enum-told : tie.Need-enum-told
+enum-told c = search needs
+
+refused-line-requires : tie.Need-refused-line-requires
+refused-line-requires c κs = search needs
+
+same-length : tie.Need-same-length
+same-length c = search needs
+
+returns : tie.Need-returns
+returns c = text-refused (c .before .before .before .before .before .read-lines .ensures) (c .before .enum-told .given .1) (c .refused-line .ensures)
+
+same-length-2 : tie.Need-same-length-2
+same-length-2 c = search needs
+
+returns-2 : tie.Need-returns-2
+returns-2 c = text-read (c .before .before .before .before .before .read-lines .ensures) (c .before .answer .given .1)
+
+pub read-text-spec : {M : Type 1} → statement M
+read-text-spec =
+    tie.close
+    (tie.spec
+    count-text-requires
+    bases-of-requires
+    read-lines-requires
+    enum-known-answer
+    enum-told
+    refused-line-requires
+    same-length
+    returns
+    same-length-2
+    returns-2)

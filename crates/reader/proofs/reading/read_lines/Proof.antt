@@ -1,0 +1,74 @@
+-- `reader::reading::read_lines` meets its contract. The loop's invariant is the reader's state between two lines. Assumes nothing.
+use Prim.Native.Nat.{_-_}
+use native.Mathlib.Omega.{arith}
+use mathlib.Core.Path.{ap, _∙_}
+use lib.ListN.{length}
+use Rattle.reader.proofs.Progress.{Progress, progress-start, progress-ready, progress-refused, progress-more, progress-end}
+use Rattle.reader.proofs.reading.read_lines.Statement.{statement}
+use Rattle.reader.proofs.reading.read_lines.Tie as tie
+use Rattle.lines.specs.Added.{refusalOf}
+
+abbrev Inv-loop : tie.InvT-loop
+Inv-loop text work₀ b at₀ n₀ work at n = Progress text work₀ work b at n
+
+abbrev μ-loop : tie.MeasureT-loop
+μ-loop text work₀ b at₀ n₀ work at n = length text - at
+
+loop-holds : tie.Need-loop-holds Inv-loop μ-loop
+loop-holds c = progress-start (c .before .before .pre)
+
+next-line-requires : tie.Need-next-line-requires Inv-loop μ-loop
+next-line-requires c κs = omega arith
+
+read-line-requires : tie.Need-read-line-requires Inv-loop μ-loop
+read-line-requires c κs = progress-ready (c .before .before .before .loop .inv) (c .before .next-line .ensures)
+
+enum-known-added : tie.Need-enum-known-added Inv-loop μ-loop
+enum-known-added c = omega arith
+
+enum-told : tie.Need-enum-told Inv-loop μ-loop
+enum-told c = omega arith
+
+refusal-of-requires : tie.Need-refusal-of-requires Inv-loop μ-loop
+refusal-of-requires c κs = omega arith
+
+add-t14 : tie.Need-add-t14 Inv-loop μ-loop
+add-t14 c = omega arith
+
+same-length : tie.Need-same-length Inv-loop μ-loop
+same-length c = omega arith
+
+returns : tie.Need-returns Inv-loop μ-loop
+returns c = rw (c .before .refusal-of .ensures ∙ ap refusalOf (c .before .before .enum-told .given .1)) (progress-refused (c .before .before .before .before .before .before .before .before .before .before .loop .inv) (c .before .before .before .before .before .before .before .before .next-line .ensures) (c .before .before .before .before .before .before .read-line .ensures) (c .before .before .enum-told .given .1))
+
+loop-less : tie.Need-loop-less Inv-loop μ-loop
+loop-less c = omega arith
+
+loop-again : tie.Need-loop-again Inv-loop μ-loop
+loop-again c = progress-more (c .before .before .before .before .before .before .before .before .before .loop .inv) (c .before .before .before .before .before .before .before .next-line .ensures) (c .before .before .before .before .before .read-line .ensures) (c .before .added .given .1)
+
+same-length-2 : tie.Need-same-length-2 Inv-loop μ-loop
+same-length-2 c = omega arith
+
+returns-2 : tie.Need-returns-2 Inv-loop μ-loop
+returns-2 c = progress-end (c .before .loop .inv) (c .loop-test .left)
+
+pub read-lines-spec : {M : Type 1} → statement M
+read-lines-spec =
+    tie.close
+    (tie.spec
+    Inv-loop
+    μ-loop
+    loop-holds
+    next-line-requires
+    read-line-requires
+    enum-known-added
+    enum-told
+    refusal-of-requires
+    add-t14
+    same-length
+    returns
+    loop-less
+    loop-again
+    same-length-2
+    returns-2)

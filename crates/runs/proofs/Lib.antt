@@ -1,0 +1,3 @@
+-- Laws of runs and counts.
+pub mod RunEnds
+pub mod Totals

@@ -1,0 +1,3 @@
+-- What the contracts on runs and counts say.
+pub mod Runs
+pub mod Counts

@@ -1,0 +1,3 @@
+-- Laws of the speller.
+pub mod Spelled
+pub mod Serving

@@ -1,0 +1,2 @@
+-- What the contracts of the speller say.
+pub mod Spelled

@@ -1,0 +1,28 @@
+-- `steps::walks::parse_w_steps` meets its contract: `*` and an empty field are no steps, else the walk is read. Assumes nothing.
+use borrow.Author.Needs.{needs}
+use Rattle.steps.proofs.StepFields.{w-star, w-none, w-walk}
+use Rattle.steps.proofs.walks.parse_w_steps.Statement.{statement}
+use Rattle.steps.proofs.walks.parse_w_steps.Tie as tie
+
+is-star-requires : tie.Need-is-star-requires
+is-star-requires c κs = search needs
+
+returns : tie.Need-returns
+returns c = w-star (c .before .is-star .ensures) (c .if1 .taken)
+
+returns-2 : tie.Need-returns-2
+returns-2 c = w-none (c .before .before .is-star .ensures) (c .before .if1 .left) (c .if2 .taken)
+
+read-walk-requires : tie.Need-read-walk-requires
+read-walk-requires c κs = search needs
+
+same-length : tie.Need-same-length
+same-length c = search needs
+
+returns-3 : tie.Need-returns-3
+returns-3 c = w-walk (c .before .before .before .before .before .before .is-star .ensures) (c .before .before .before .before .before .if1 .left) (c .before .before .before .before .before .before .before .before .before .pre .0) (c .before .before .before .before .if2 .left) (c .before .before .read-walk .ensures)
+
+pub parse-w-steps-spec : {M : Type 1} → statement M
+parse-w-steps-spec =
+    tie.close
+    (tie.spec is-star-requires returns returns-2 read-walk-requires same-length returns-3)

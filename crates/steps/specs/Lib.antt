@@ -1,0 +1,3 @@
+-- What the contracts on fields of steps say.
+pub mod Checked
+pub mod StepFields

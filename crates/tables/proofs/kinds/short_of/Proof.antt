@@ -1,0 +1,22 @@
+-- `tables::kinds::short_of` meets its contract, by the kind. Assumes nothing.
+use borrow.Author.Needs.{needs}
+use Rattle.tables.proofs.kinds.short_of.Statement.{statement}
+use Rattle.tables.proofs.kinds.short_of.Tie as tie
+use Rattle.tables.specs.Paths.{shortOf, kindIn}
+
+enum-told : tie.Need-enum-told
+enum-told c = search needs
+
+enum-told-2 : tie.Need-enum-told-2
+enum-told-2 c = search needs
+
+returns : tie.Need-returns
+unfolding shortOf
+returns c = rw (c .enum-told .given .1)
+
+returns-2 : tie.Need-returns-2
+unfolding shortOf
+returns-2 c = rw (c .enum-told2 .given .1)
+
+pub short-of-spec : {M : Type 1} → statement M
+short-of-spec = tie.close (tie.spec enum-told enum-told-2 returns returns-2)

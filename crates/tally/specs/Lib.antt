@@ -1,0 +1,3 @@
+-- What the contracts of the two passes say.
+pub mod Tabled
+pub mod Visits
