@@ -109,12 +109,13 @@ static void refused(enum service service, const char *text, size_t arg, yeshqora
 static void small_texts(void) {
     accepted(NORMALIZE, LISTING, 0, "S\t1\tAC\nS\t2\tACACAC\nP\tp\t2+\t*\n");
     accepted(NORMALIZE, LISTING, 1, LISTING);
+    accepted(NORMALIZE, LISTING, SIZE_MAX, "S\t1\tAC\nS\t2\tACACAC\nP\tp\t2+\t*\n");
     accepted(NORMALIZE, "", 0, "");
     accepted(SPELL, LISTING, 0, "ACACAC");
     accepted(SPELL, "S\t1\tacGN\nP\tp\t1-\n", 0, "NCGT");
     accepted(NORMALIZE, "S\t1\tAC\r\nL\t1\t+\t1\t+\t0M\r\nP\tp\t1+,1+,1+\t*\r\n", 0, "S\t1\tAC\nS\t2\tACACAC\nP\tp\t2+\t*\n");
     accepted(NORMALIZE, "S\t1\tAC\r\n", 0, "S\t1\tAC\r\n");
-    accepted(REPORT, "", 10,
+    accepted(REPORT, "", SIZE_MAX,
              "direct_self_loop_edges=0\ndirect_self_loop_nodes=0\nadjacent_same_node_path_steps=0\n"
              "adjacent_same_step_path_steps=0\nrepeated_path_runs=0\nmax_repeat_run_len=0\n");
     enum service all[] = {REPORT, NORMALIZE, SPELL};
@@ -127,6 +128,7 @@ static void small_texts(void) {
     refused(NORMALIZE, LISTING "P\tq\t9+\t*\n", 0, (yeshqoram_answer){18, 0, 39, 1});
     refused(SPELL, "S\tx\t*\nP\tp\tx+\n", 0, (yeshqoram_answer){19, 0, 10, 1});
     refused(SPELL, LISTING, 1, (yeshqoram_answer){21, 0, 0, 0});
+    refused(SPELL, LISTING, SIZE_MAX, (yeshqoram_answer){21, 0, 0, 0});
 }
 
 /* The longest text and one byte more: a comment, and the listing's graph in front of it. */

@@ -12,7 +12,10 @@ pub enum Kind {
     Pieces,
     Graphs,
     Damaged,
-    /// Graphs and damaged graphs by turns.
+    /// Graphs and damaged graphs with the largest arguments.
+    Largest,
+    /// Graphs and damaged graphs by turns; two of eight have the largest
+    /// arguments.
     Mixed,
 }
 
@@ -23,6 +26,7 @@ impl Kind {
             "pieces" => Kind::Pieces,
             "graphs" => Kind::Graphs,
             "damaged" => Kind::Damaged,
+            "largest" => Kind::Largest,
             "mixed" => Kind::Mixed,
             _ => return None,
         })
@@ -34,10 +38,11 @@ pub fn case(kind: Kind, seed: u64, number: u64) -> (String, Case) {
     match kind {
         Kind::Tokens => enumerated("tokens", &tiny::TOKENS, number),
         Kind::Pieces => enumerated("pieces", &tiny::PIECES, number),
-        Kind::Graphs => random("graph", seed, number, false),
-        Kind::Damaged => random("damaged graph", seed, number, true),
-        Kind::Mixed if number % 2 == 1 => random("damaged graph", seed, number, true),
-        Kind::Mixed => random("graph", seed, number, false),
+        Kind::Graphs => random(seed, number, false, argument),
+        Kind::Damaged => random(seed, number, true, argument),
+        Kind::Largest => random(seed, number, number % 2 == 1, largest),
+        Kind::Mixed if number % 8 >= 6 => random(seed, number, number % 2 == 1, largest),
+        Kind::Mixed => random(seed, number, number % 2 == 1, argument),
     }
 }
 
@@ -51,11 +56,18 @@ fn enumerated(label: &str, alphabet: &[&str], number: u64) -> (String, Case) {
     )
 }
 
-fn random(label: &str, seed: u64, number: u64, damaged: bool) -> (String, Case) {
+fn random(
+    seed: u64,
+    number: u64,
+    damaged: bool,
+    argument: fn(&mut Rng, Service) -> usize,
+) -> (String, Case) {
     let mut rng = Rng::new(seed, number);
     let mut text = graphs::text(&mut rng);
+    let mut label = "graph";
     if damaged {
         text = damage::damaged(&mut rng, &text);
+        label = "damaged graph";
     }
     let service = Service::ALL[rng.below(3)];
     let arg = argument(&mut rng, service);
@@ -71,6 +83,24 @@ fn argument(rng: &mut Rng, service: Service) -> usize {
         Service::Spell => [0, 0, 0, 0, 1, 2],
     };
     args[rng.below(args.len())]
+}
+
+/// The largest number and those next to it, and the ends of shorter words:
+/// the same for the nodes of a report, a cap, and the number of a path.
+pub const LARGEST: [usize; 9] = [
+    usize::MAX,
+    usize::MAX - 1,
+    usize::MAX - 2,
+    usize::MAX / 2 + 1,
+    usize::MAX / 2,
+    usize::MAX / 4 + 1,
+    u32::MAX as usize + 1,
+    u32::MAX as usize,
+    i32::MAX as usize + 1,
+];
+
+fn largest(rng: &mut Rng, _: Service) -> usize {
+    LARGEST[rng.below(LARGEST.len())]
 }
 
 /// Now and then an output buffer or a work area near its least size.
@@ -96,6 +126,23 @@ mod tests {
             assert_eq!(case(Kind::Mixed, 7, number), case(Kind::Mixed, 7, number));
         }
         assert_ne!(case(Kind::Mixed, 7, 0), case(Kind::Mixed, 8, 0));
+    }
+
+    #[test]
+    fn the_largest_arguments_of_every_service() {
+        let cases: Vec<Case> = (0..2_000).map(|i| case(Kind::Mixed, 1, i).1).collect();
+        for service in Service::ALL {
+            for arg in LARGEST {
+                let mut alike = cases
+                    .iter()
+                    .filter(|case| (case.service, case.arg) == (service, arg));
+                assert!(alike.next().is_some(), "{service:?} {arg}");
+            }
+        }
+        let folds = cases
+            .iter()
+            .filter(|case| LARGEST.contains(&case.arg) && case.answer().stats[6] > 0);
+        assert!(folds.count() > 3);
     }
 
     #[test]

@@ -18,7 +18,8 @@ usage: cases COMMAND
   verify FILE      compare the recorded answers with the oracle's; status 1 on a difference
   generate --seed S --count N [--first I] [--kind KIND]
                    write cases I to I+N-1 with answers; a case depends on KIND, S and its number;
-                   KIND is tokens, pieces (all small texts by number), graphs, damaged or mixed
+                   KIND is tokens, pieces (all small texts by number), graphs, damaged, largest
+                   (arguments at the end of the numbers) or mixed
   summary FILE     count cases by service and number
   text SHAPE BYTES write one large text; SHAPE is segments, links, long-paths, long-runs,
                    clashes, crlf or nothing-to-fold

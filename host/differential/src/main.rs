@@ -120,10 +120,13 @@ fn large(most: usize) -> usize {
             let text = sizes::text(shape, bytes);
             let calls = [
                 (Service::Report, 10),
+                (Service::Report, usize::MAX),
                 (Service::Normalize, 0),
                 (Service::Normalize, 1),
                 (Service::Normalize, 7),
+                (Service::Normalize, usize::MAX),
                 (Service::Spell, 0),
+                (Service::Spell, usize::MAX),
             ];
             for (service, arg) in calls {
                 let mut case = Case::new(service, arg, text.clone());

@@ -62,8 +62,9 @@ fn number(service: Service, text: &[u8], arg: usize, room: usize, words: usize) 
 
 #[test]
 fn accepted_at_the_least_sizes() {
-    let cases: [(Service, &[u8], usize, &[u8]); 5] = [
+    let cases: [(Service, &[u8], usize, &[u8]); 6] = [
         (Service::Normalize, LISTING, 0, FOLDED),
+        (Service::Normalize, LISTING, usize::MAX, FOLDED),
         (Service::Normalize, LISTING, 1, LISTING),
         (Service::Normalize, b"", 0, b""),
         (Service::Spell, LISTING, 0, b"ACACAC"),
@@ -140,7 +141,9 @@ fn empty_buffers() {
     }
     assert_eq!(number(Service::Normalize, b"", 0, 0, 64), 0);
     assert_eq!(number(Service::Report, b"", 0, 0, 64), 22);
-    assert_eq!(number(Service::Spell, b"", 0, 0, 64), 21);
+    for path in [0, usize::MAX] {
+        assert_eq!(number(Service::Spell, b"", path, 0, 64), 21);
+    }
 }
 
 #[test]
@@ -159,7 +162,7 @@ fn the_longest_text_and_one_byte_more() {
     }
 }
 
-/// A unit of 524,000 bases in a run of 174,000: the answer has 91,176,526,573
+/// A unit of 524,000 bases in a run of 174,000: the answer has 91,176,524,019
 /// bytes, and is refused without being made.
 #[test]
 fn an_answer_longer_than_any_buffer() {
