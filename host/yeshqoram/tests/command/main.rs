@@ -1,0 +1,5 @@
+//! The command line: what it prints, its exit status, and that no file is lost.
+
+mod gate;
+mod program;
+mod services;
