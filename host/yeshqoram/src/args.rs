@@ -1,33 +1,9 @@
 //! The words of the command line.
 
-use crate::Failure;
+use crate::failure::Failure;
+use crate::help::{HELP, VERSION};
 use std::ffi::{OsStr, OsString};
-use std::path::PathBuf;
-
-pub const HELP: &str = "\
-usage: yeshqoram report [--top N] [OPTIONS] [FILE]
-       yeshqoram normalize [--cap N] [--stats] [--note] [OPTIONS] [FILE]
-       yeshqoram spell PATH-NUMBER [OPTIONS] [FILE]
-
-FILE is GFA text of at most 1,048,576 bytes; without it, or with -, standard input is read.
-
-  report          totals and the nodes with a self-link, the most repeated first
-    --top N         how many nodes (10)
-  normalize       the text with runs of equal steps on self-looped segments folded
-    --cap N         fold segments of at most N bases; 0, which is the default, is no cap
-    --stats         the fourteen counters, on standard error
-    --note          a release note on standard output in place of the text: what was folded, and for each
-                    path its steps and bases; with -o the text still goes to that file
-  spell           the bases of a path; the first is number 0
-
-  -o, --output OUT  write to OUT, which is replaced at once or left as it was
-  --room BYTES      the longest answer to make room for (1073741824); a longer one is refused as 22
-  --help, --version
-
-Exit status: 0; 1 if the text is refused; 2 if the command is wrong or a file cannot be read or written.
-";
-
-pub const VERSION: &str = concat!("yeshqoram ", env!("CARGO_PKG_VERSION"), "\n");
+use std::path::{Path, PathBuf};
 
 /// The longest answer that room is made for, where nothing else is said.
 const ROOM: usize = 1 << 30;
@@ -65,7 +41,7 @@ pub fn parse(mut words: impl Iterator<Item = OsString>) -> Result<Command, Failu
         Some("spell") => Service::Spell { path: 0 },
         _ => return Err(wrong(&format!("{} is no command", shown(&name)))),
     };
-    let (mut output, mut room, mut plain) = (None, ROOM, Vec::new());
+    let (mut output, mut room, mut plain): (Option<PathBuf>, _, _) = (None, ROOM, Vec::new());
     while let Some(word) = words.next() {
         match (word.to_str(), &mut service) {
             (Some("--help" | "-h"), _) => return Ok(Command::Print(HELP)),
@@ -85,6 +61,12 @@ pub fn parse(mut words: impl Iterator<Item = OsString>) -> Result<Command, Failu
     let mut plain = plain.into_iter();
     if let Service::Spell { path } = &mut service {
         *path = number(OsStr::new("spell"), plain.next())?;
+    }
+    let noted = matches!(service, Service::Normalize { note: true, .. });
+    if noted && output.as_deref() == Some(Path::new("-")) {
+        return Err(wrong(
+            "the note and the text cannot both go to standard output",
+        ));
     }
     let input = plain.next().filter(|file| file != "-").map(PathBuf::from);
     match plain.next() {

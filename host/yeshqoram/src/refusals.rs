@@ -1,6 +1,6 @@
 //! Refusals in words, with the place that they name.
 
-use crate::Failure;
+use crate::failure::Failure;
 use yeshqoram::Answer;
 
 /// What a number says (document 01, "Refused calls").

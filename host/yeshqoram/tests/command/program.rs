@@ -5,7 +5,7 @@ use std::io::Write;
 use std::path::{Path, PathBuf};
 use std::process::{Child, Command, Output, Stdio};
 
-const PROGRAM: &str = env!("CARGO_BIN_EXE_yeshqoram");
+pub const PROGRAM: &str = env!("CARGO_BIN_EXE_yeshqoram");
 pub const LISTING: &str = "S\t1\tAC\nL\t1\t+\t1\t+\t0M\nP\tp\t1+,1+,1+\t*\n";
 pub const FOLDED: &str = "S\t1\tAC\nS\t2\tACACAC\nP\tp\t2+\t*\n";
 
@@ -13,8 +13,16 @@ pub fn run(args: &[&str], input: &[u8]) -> Output {
     finish(Command::new(PROGRAM).args(args), input)
 }
 
+/// A line of the shell, in which `$yeshqoram` is the program; the folder is the
+/// one it runs in.
+pub fn shell(folder: &Path, line: &str, input: &[u8]) -> Output {
+    let mut command = Command::new("sh");
+    command.args(["-c", line]).current_dir(folder);
+    finish(command.env("yeshqoram", PROGRAM), input)
+}
+
 /// Starts a command with the three streams at hand.
-fn start(command: &mut Command) -> Child {
+pub fn start(command: &mut Command) -> Child {
     command
         .stdin(Stdio::piped())
         .stdout(Stdio::piped())

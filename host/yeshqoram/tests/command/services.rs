@@ -82,6 +82,7 @@ fn wrong_commands() {
         &["spell", "first"],
         &["report", "a", "b"],
         &["report", "--no-such-option"],
+        &["normalize", "--note", "-o", "-"],
     ] {
         let output = run(args, b"");
         assert_eq!(output.status.code(), Some(2), "{args:?}");

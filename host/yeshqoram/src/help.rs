@@ -1,0 +1,29 @@
+//! What `--help` and `--version` print.
+
+pub const HELP: &str = "\
+usage: yeshqoram report [--top N] [OPTIONS] [FILE]
+       yeshqoram normalize [--cap N] [--stats] [--note] [OPTIONS] [FILE]
+       yeshqoram spell PATH-NUMBER [OPTIONS] [FILE]
+
+FILE is GFA text of at most 1,048,576 bytes; without it, or with -, standard input is read.
+
+  report          totals and the nodes with a self-link, the most repeated first
+    --top N         how many nodes (10)
+  normalize       the text with runs of equal steps on self-looped segments folded
+    --cap N         fold segments of at most N bases; 0, which is the default, is no cap
+    --stats         the fourteen counters, on standard error
+    --note          a release note on standard output in place of the text: what was folded, and for each
+                    path its steps and bases; with -o the text still goes to that file
+  spell           the bases of a path; the first is number 0
+
+  -o, --output OUT  write to OUT, or with - to standard output. A file is replaced whole or left as it was, and a
+                    write-protected one is left; a symbolic link stays. A device, a pipe, and a file that standard
+                    output or error already goes to are written to
+  --room BYTES      the longest answer to make room for (1073741824); a longer one is refused as 22
+  --help, --version
+
+Exit status: 0; 1 if the text is refused; 2 if the command is wrong or a file cannot be read or written; 141, in
+silence, if the reader of standard output leaves before the end.
+";
+
+pub const VERSION: &str = concat!("yeshqoram ", env!("CARGO_PKG_VERSION"), "\n");
