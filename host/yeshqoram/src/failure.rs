@@ -1,5 +1,7 @@
 //! Why a command did not end well.
 
+use std::collections::TryReserveError;
+
 pub enum Failure {
     /// The text is refused.
     Refused(String),
@@ -26,5 +28,11 @@ impl Failure {
             Failure::Refused(message) | Failure::Wrong(message) => Some(message),
             Failure::Left => None,
         }
+    }
+}
+
+impl From<TryReserveError> for Failure {
+    fn from(_: TryReserveError) -> Self {
+        Failure::Wrong("there is not enough memory".to_string())
     }
 }

@@ -3,8 +3,11 @@
 mod args;
 mod failure;
 mod files;
+mod folded;
 mod graph;
 mod help;
+mod lines;
+mod memory;
 mod note;
 mod refusals;
 mod room;
@@ -53,14 +56,16 @@ fn serve(work: &Work) -> Result<(), Failure> {
         Service::Normalize { cap, stats, note } => {
             let (normalized, counters) = room::normalize(&text, cap, work.room)
                 .map_err(|answer| refusals::refused(&answer, &text))?;
-            let note = note.then(|| note::note(&text, &normalized, cap, &counters));
+            let note = note
+                .then(|| note::note(&text, &normalized, cap, &counters))
+                .transpose()?;
             if stats {
                 show(&counters)?;
             }
             if note.is_none() || output.is_some() {
                 save(output, &normalized)?;
             }
-            note.map_or(Ok(()), |note| Stream::Output.write(note.as_bytes()))
+            note.map_or(Ok(()), |note| Stream::Output.write(&note))
         }
     }
 }

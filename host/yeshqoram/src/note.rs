@@ -1,79 +1,84 @@
 //! The release note of a normalization.
 
-use crate::graph::{runs, Graph, Step};
-use std::collections::BTreeMap;
-use std::fmt::Write;
+use crate::failure::Failure;
+use crate::folded::{folded, Run};
+use crate::graph::Graph;
+use crate::memory::Page;
 use yeshqoram::Stats;
 
 /// What was folded, and what became of each path; then what is proved of it.
-pub fn note(text: &[u8], output: &[u8], cap: usize, stats: &Stats) -> String {
-    let (before, after) = (Graph::new(text), Graph::new(output));
-    let mut folded = BTreeMap::new();
-    let mut paths = String::new();
-    for (number, (old, new)) in before.paths.iter().zip(&after.paths).enumerate() {
-        count_folded(&old.steps, &new.steps, &mut folded);
-        let bases = after
-            .bases(new)
-            .map_or_else(|| "unknown".to_string(), |bases| bases.to_string());
-        let _ = writeln!(
-            paths,
-            "{number}\t{}\t{}\t{}\t{}\t{bases}",
-            printed(old.name),
-            old.steps.len(),
-            new.steps.len(),
-            old.steps.len() - new.steps.len(),
-        );
+pub fn note(text: &[u8], output: &[u8], cap: usize, stats: &Stats) -> Result<Vec<u8>, Failure> {
+    let (before, after) = (Graph::new(text)?, Graph::new(output)?);
+    let mut note = Page::default();
+    note.put("Release note\n\n")?;
+    match cap {
+        0 => note.put("Cap: none\n")?,
+        _ => note.put(format!("Cap: segments of at most {cap} bases\n"))?,
     }
-    let mut note = String::from("Release note\n\n");
-    let _ = match cap {
-        0 => writeln!(note, "Cap: none"),
-        _ => writeln!(note, "Cap: segments of at most {cap} bases"),
-    };
-    if folded.is_empty() {
-        note += "Nothing is folded: the text is returned byte for byte.\n";
+    if stats.normalized_nodes == 0 {
+        note.put("Nothing is folded: the text is returned byte for byte.\n")?;
     } else {
-        let _ = writeln!(note, "Folded runs: {}", stats.collapsed_runs);
-        let _ = writeln!(note, "Segments they are on: {}", stats.normalized_nodes);
-        let _ = writeln!(
-            note,
-            "Paths that have one: {} of {}",
-            stats.paths_changed,
-            before.paths.len()
-        );
-        let _ = writeln!(note, "New segments: {}", stats.created_segments);
-        let _ = writeln!(note, "New links: {}", stats.added_links);
-        let _ = writeln!(note, "Links removed: {}", stats.removed_self_loop_links);
-        note += "\nsegment\trun length\truns\n";
-        for ((name, length), count) in &folded {
-            let _ = writeln!(note, "{}\t{length}\t{count}", printed(name));
-        }
+        totals(&mut note, stats, before.paths.len())?;
+        segments(&mut note, &folded(&before, &after)?)?;
     }
-    note += "\npath\tname\tsteps before\tsteps after\tlost steps\tbases\n";
-    note += &paths;
-    note + PROVED
+    paths(&mut note, &before, &after)?;
+    note.put(PROVED)?;
+    Ok(note.0)
 }
 
-/// The runs of a path that became one step, by segment and length. A run that
-/// is kept has its own name again; no new segment has the name of an old one.
-fn count_folded<'a>(
-    old: &[Step<'a>],
-    new: &[Step<'_>],
-    folded: &mut BTreeMap<(&'a [u8], usize), usize>,
-) {
-    let mut at = 0;
-    for ((name, _), length) in runs(old) {
-        if new.get(at).is_some_and(|step| step.0 == name) {
-            at += length;
-        } else {
-            *folded.entry((name, length)).or_default() += 1;
-            at += 1;
-        }
-    }
+fn totals(note: &mut Page, stats: &Stats, paths: usize) -> Result<(), Failure> {
+    note.put(format!(
+        "\
+Folded runs: {}
+Segments they are on: {}
+Paths that have one: {} of {paths}
+New segments: {}
+New links: {}
+Links removed: {}
+",
+        stats.collapsed_runs,
+        stats.normalized_nodes,
+        stats.paths_changed,
+        stats.created_segments,
+        stats.added_links,
+        stats.removed_self_loop_links,
+    ))
 }
 
-fn printed(name: &[u8]) -> String {
-    String::from_utf8_lossy(name).into_owned()
+fn segments(note: &mut Page, folded: &[Run]) -> Result<(), Failure> {
+    note.put("\nsegment\trun length\truns\n")?;
+    for equal in folded.chunk_by(|a, b| a == b) {
+        let (name, length) = equal[0];
+        note.row(&[name, figure(length).as_ref(), figure(equal.len()).as_ref()])?;
+    }
+    Ok(())
 }
+
+fn paths(note: &mut Page, before: &Graph, after: &Graph) -> Result<(), Failure> {
+    note.put("\npath\tname\tsteps before\tsteps after\tlost steps\tbases\n")?;
+    for (number, (old, new)) in before.paths.iter().zip(&after.paths).enumerate() {
+        note.row(&[
+            figure(number).as_ref(),
+            old.name,
+            figure(old.steps.len()).as_ref(),
+            figure(new.steps.len()).as_ref(),
+            figure(old.steps.len() - new.steps.len()).as_ref(),
+            after.bases_in_words(new).as_ref(),
+        ])?;
+    }
+    if after.paths.iter().any(|path| after.bases(path).is_none()) {
+        note.put(UNKNOWN)?;
+    }
+    Ok(())
+}
+
+fn figure(number: usize) -> String {
+    number.to_string()
+}
+
+const UNKNOWN: &str = "
+Bases are unknown where a step names no segment, or one with the sequence *: such a path cannot be spelled.
+";
 
 const PROVED: &str = "
 Proved of the text that was written, read again at any length: each path spells exactly the bases that it

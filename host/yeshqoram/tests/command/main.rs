@@ -1,7 +1,14 @@
 //! The command line: what it prints, its exit status, and that no file is lost.
 
 mod gate;
+mod note;
 mod output;
 mod program;
 mod services;
 mod statuses;
+
+// The generators of the differential runs.
+#[path = "../../../cases/src/graphs.rs"]
+mod graphs;
+#[path = "../../../cases/src/rng.rs"]
+mod rng;
