@@ -3,7 +3,7 @@
 use std::collections::TryReserveError;
 
 pub enum Failure {
-    /// The text is refused.
+    /// The text, or the path that was asked for, is refused.
     Refused(String),
     /// The command, a file or the machine is at fault.
     Wrong(String),

@@ -9,16 +9,18 @@ mod help;
 mod lines;
 mod memory;
 mod note;
+mod paths;
 mod refusals;
 mod room;
 mod save;
 mod streams;
 
-use args::{Command, Service, Work};
+use args::{Chosen, Command, Service, Work};
 use failure::Failure;
 use save::save;
 use std::process::ExitCode;
 use streams::Stream;
+use yeshqoram::Answer;
 
 fn main() -> ExitCode {
     let Err(failure) = run() else {
@@ -41,31 +43,45 @@ fn run() -> Result<(), Failure> {
 fn serve(work: &Work) -> Result<(), Failure> {
     let text = files::read(work.input.as_deref())?;
     let output = work.output.as_deref();
-    match work.service {
+    let refused = |answer: Answer| refusals::refused(&answer, &text);
+    match &work.service {
         Service::Report { top_n } => {
-            let report = room::report(&text, top_n, work.room)
-                .map_err(|answer| refusals::refused(&answer, &text))?;
+            let report = room::report(&text, *top_n, work.room).map_err(refused)?;
             save(output, &report)
         }
         Service::Spell { path } => {
-            let mut bases = room::spell_path(&text, path, work.room)
-                .map_err(|answer| refusals::refused(&answer, &text))?;
+            let path = chosen(&text, path)?;
+            let mut bases = room::spell_path(&text, path, work.room).map_err(refused)?;
             bases.push(b'\n');
             save(output, &bases)
         }
+        Service::Paths => {
+            room::readable(&text).map_err(refused)?;
+            save(output, &paths::list(&text)?)
+        }
         Service::Normalize { cap, stats, note } => {
-            let (normalized, counters) = room::normalize(&text, cap, work.room)
-                .map_err(|answer| refusals::refused(&answer, &text))?;
+            let (normalized, counters) =
+                room::normalize(&text, *cap, work.room).map_err(refused)?;
             let note = note
-                .then(|| note::note(&text, &normalized, cap, &counters))
+                .then(|| note::note(&text, &normalized, *cap, &counters))
                 .transpose()?;
-            if stats {
+            if *stats {
                 show(&counters)?;
             }
             if note.is_none() || output.is_some() {
                 save(output, &normalized)?;
             }
             note.map_or(Ok(()), |note| Stream::Output.write(&note))
+        }
+    }
+}
+
+fn chosen(text: &[u8], path: &Chosen) -> Result<usize, Failure> {
+    match path {
+        Chosen::Number(number) => Ok(*number),
+        Chosen::Name(name) => {
+            room::readable(text).map_err(|answer| refusals::refused(&answer, text))?;
+            paths::number(text, name)
         }
     }
 }

@@ -25,6 +25,16 @@ pub fn normalize(text: &[u8], cap: usize, most: usize) -> Result<(Vec<u8>, Stats
     })
 }
 
+/// Is the text one that can be read? No path has the number that is asked for.
+pub fn readable(text: &[u8]) -> Result<(), Answer> {
+    let mut work = vec![0; least_work(text.len())];
+    let answer = yeshqoram::spell_path(text, usize::MAX, &mut [], &mut work);
+    match answer.number {
+        21 => Ok(()),
+        _ => Err(answer),
+    }
+}
+
 /// Calls with four times the room as long as there is too little, up to `most`.
 fn grow<T>(
     text: &[u8],

@@ -3,6 +3,7 @@
 mod gate;
 mod note;
 mod output;
+mod paths;
 mod program;
 mod services;
 mod statuses;

@@ -47,7 +47,7 @@ fn the_text_and_the_note_in_one_stream() {
 #[test]
 fn a_dash_is_standard_output() {
     let folder = folder("dash");
-    for command in ["normalize", "report", "spell 0"] {
+    for command in ["normalize", "report", "spell 0", "paths"] {
         let line = format!("$yeshqoram {command} -o -");
         let done = shell(&folder, &line, LISTING.as_bytes());
         assert_eq!(done.status.code(), Some(0), "{command}");

@@ -82,6 +82,12 @@ fn wrong_commands() {
         &["spell", "first"],
         &["report", "a", "b"],
         &["report", "--no-such-option"],
+        &["normalize", "--cap=many"],
+        &["normalize", "--stats=1"],
+        &["normalize", "--cap="],
+        &["spell", "--name"],
+        &["spell", "--name", "p", "a", "b"],
+        &["paths", "--room", "1"],
         &["normalize", "--note", "-o", "-"],
     ] {
         let output = run(args, b"");
@@ -90,6 +96,27 @@ fn wrong_commands() {
     }
     assert!(stdout(&run(&["--help"], b"")).starts_with("usage: yeshqoram"));
     assert!(stdout(&run(&["--version"], b"")).starts_with("yeshqoram 1"));
+}
+
+#[test]
+fn values_joined_to_their_options() {
+    let text = LISTING.as_bytes();
+    assert_eq!(stdout(&run(&["normalize", "--cap=1"], text)), LISTING);
+    assert_eq!(stdout(&run(&["normalize", "--cap=2"], text)), FOLDED);
+    assert_eq!(stdout(&run(&["spell", "--name=p"], text)), "ACACAC\n");
+    let totals = stdout(&run(&["report", "--top=0"], text));
+    assert!(!totals.contains("node=1"));
+    let small = run(&["normalize", "--room=10"], text);
+    assert!(stderr(&small).contains("refused (22)"));
+    for output in ["--output=-", "-o=-"] {
+        assert_eq!(stdout(&run(&["normalize", output], text)), FOLDED);
+    }
+    // The name of a file may hold the sign.
+    let folder = folder("joined");
+    let file = folder.join("a=b.gfa");
+    fs::write(&file, LISTING).unwrap();
+    let read = run(&["normalize", file.to_str().unwrap()], b"");
+    assert_eq!(stdout(&read), FOLDED);
 }
 
 #[test]

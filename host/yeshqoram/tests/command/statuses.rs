@@ -15,7 +15,14 @@ fn fails(folder: &Path, line: &str) -> String {
 #[test]
 fn full_devices() {
     let folder = folder("full");
-    for command in ["report", "normalize", "spell 0", "--help", "--version"] {
+    for command in [
+        "report",
+        "normalize",
+        "spell 0",
+        "paths",
+        "--help",
+        "--version",
+    ] {
         let said = fails(&folder, &format!("$yeshqoram {command} > /dev/full"));
         assert!(said.starts_with("yeshqoram: standard output: "), "{said}");
     }
@@ -34,6 +41,7 @@ fn closed_streams() {
         "normalize",
         "normalize --note",
         "spell 0",
+        "paths",
         "--help",
     ] {
         let said = fails(&folder, &format!("$yeshqoram {command} >&-"));
