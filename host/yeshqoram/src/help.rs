@@ -28,8 +28,8 @@ FILE is GFA text of at most 1,048,576 bytes; without it, or with -, standard inp
 
 The value of an option may be joined to it: --cap=3.
 
-Exit status: 0; 1 if the text or the path is refused; 2 if the command is wrong or a file cannot be read or written;
-141, in silence, if the reader of standard output leaves before the end.
+Exit status: 0; 1 if the text or the path is refused; 2 if the command is wrong, a file cannot be read or written, or
+memory is short; 141, in silence, if the reader of standard output leaves before the end.
 ";
 
 pub const VERSION: &str = concat!("yeshqoram ", env!("CARGO_PKG_VERSION"), "\n");

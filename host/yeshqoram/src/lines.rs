@@ -1,5 +1,7 @@
 //! Lines and fields of a text.
 
+use std::ops::Range;
+
 /// The lines with their starts, without their ends.
 pub fn lines(text: &[u8]) -> impl Iterator<Item = (&[u8], usize)> {
     let mut start = 0;
@@ -16,4 +18,19 @@ pub fn lines(text: &[u8]) -> impl Iterator<Item = (&[u8], usize)> {
 pub fn fields(line: &[u8]) -> [Option<&[u8]>; 7] {
     let mut fields = line.split(|&byte| byte == b'\t');
     std::array::from_fn(|_| fields.next())
+}
+
+/// Where a field stands in its line, the first being 0; the line's end if there
+/// is none.
+pub fn field(line: &[u8], number: usize) -> Range<usize> {
+    let mut fields = line.split(|&byte| byte == b'\t');
+    let start: usize = fields
+        .by_ref()
+        .take(number)
+        .map(|field| field.len() + 1)
+        .sum();
+    match fields.next() {
+        Some(field) => start..start + field.len(),
+        None => line.len()..line.len(),
+    }
 }

@@ -8,6 +8,7 @@ mod graph;
 mod help;
 mod lines;
 mod memory;
+mod need;
 mod note;
 mod paths;
 mod refusals;
@@ -20,7 +21,6 @@ use failure::Failure;
 use save::save;
 use std::process::ExitCode;
 use streams::Stream;
-use yeshqoram::Answer;
 
 fn main() -> ExitCode {
     let Err(failure) = run() else {
@@ -43,25 +43,19 @@ fn run() -> Result<(), Failure> {
 fn serve(work: &Work) -> Result<(), Failure> {
     let text = files::read(work.input.as_deref())?;
     let output = work.output.as_deref();
-    let refused = |answer: Answer| refusals::refused(&answer, &text);
     match &work.service {
-        Service::Report { top_n } => {
-            let report = room::report(&text, *top_n, work.room).map_err(refused)?;
-            save(output, &report)
-        }
+        Service::Report { top_n } => save(output, &room::report(&text, *top_n, work.room)?),
         Service::Spell { path } => {
-            let path = chosen(&text, path)?;
-            let mut bases = room::spell_path(&text, path, work.room).map_err(refused)?;
+            let mut bases = room::spell_path(&text, chosen(&text, path)?, work.room)?;
             bases.push(b'\n');
             save(output, &bases)
         }
         Service::Paths => {
-            room::readable(&text).map_err(refused)?;
+            room::readable(&text)?;
             save(output, &paths::list(&text)?)
         }
         Service::Normalize { cap, stats, note } => {
-            let (normalized, counters) =
-                room::normalize(&text, *cap, work.room).map_err(refused)?;
+            let (normalized, counters) = room::normalize(&text, *cap, work.room)?;
             let note = note
                 .then(|| note::note(&text, &normalized, *cap, &counters))
                 .transpose()?;
@@ -80,7 +74,7 @@ fn chosen(text: &[u8], path: &Chosen) -> Result<usize, Failure> {
     match path {
         Chosen::Number(number) => Ok(*number),
         Chosen::Name(name) => {
-            room::readable(text).map_err(|answer| refusals::refused(&answer, text))?;
+            room::readable(text)?;
             paths::number(text, name)
         }
     }

@@ -3,6 +3,19 @@
 
 use crate::failure::Failure;
 
+/// So many zeros, with room for one more element behind them.
+pub fn zeros<T: Clone + Default>(length: usize) -> Result<Vec<T>, Failure> {
+    let mut list = Vec::new();
+    list.try_reserve_exact(length.saturating_add(1))
+        .map_err(|_| Failure::Wrong(format!("there is no memory for {}", sized::<T>(length))))?;
+    list.resize(length, T::default());
+    Ok(list)
+}
+
+fn sized<T>(length: usize) -> String {
+    format!("{} bytes", length as u128 * size_of::<T>() as u128)
+}
+
 pub fn push<T>(list: &mut Vec<T>, item: T) -> Result<(), Failure> {
     list.try_reserve(1)?;
     list.push(item);

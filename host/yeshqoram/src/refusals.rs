@@ -26,7 +26,7 @@ fn words(number: usize) -> &'static str {
         18 => "a path step names no segment",
         19 => "a path step's segment has the sequence *",
         21 => "no path has that number; the first is number 0",
-        22 => "the answer is longer than the room for it; --room lends more",
+        22 => "the answer is longer than the room for it",
         _ => "refused",
     }
 }
@@ -42,6 +42,14 @@ pub fn refused(answer: &Answer, text: &[u8]) -> Failure {
         message += &shown(number, line, answer.from - start, answer.length);
     }
     Failure::Refused(message)
+}
+
+/// A refusal as 22, with what the answer needs.
+pub fn too_long(need: usize, most: usize) -> Failure {
+    Failure::Refused(format!(
+        "refused (22): {}: it has {need} bytes, and --room allows {most}",
+        words(22)
+    ))
 }
 
 /// The lines with their starts, without their ends.

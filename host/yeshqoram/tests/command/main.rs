@@ -1,6 +1,8 @@
 //! The command line: what it prints, its exit status, and that no file is lost.
 
 mod gate;
+mod memory;
+mod need;
 mod note;
 mod output;
 mod paths;

@@ -53,3 +53,14 @@ pub fn stdout(output: &Output) -> String {
 pub fn stderr(output: &Output) -> String {
     String::from_utf8_lossy(&output.stderr).into_owned()
 }
+
+/// A unit of 524,000 bases in a run of 174,000: folded, it has 91,176,524,019
+/// bytes.
+pub fn huge() -> Vec<u8> {
+    let mut text = b"S\t1\t".to_vec();
+    text.extend(std::iter::repeat_n(b'A', 524_000));
+    text.extend(b"\nL\t1\t+\t1\t+\t0M\nP\tp\t1+");
+    text.extend(b",1+".repeat(173_999));
+    text.extend(b"\t*\n");
+    text
+}
