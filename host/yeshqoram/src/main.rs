@@ -2,6 +2,7 @@
 
 mod args;
 mod failure;
+mod fault;
 mod files;
 mod folded;
 mod graph;
@@ -14,6 +15,7 @@ mod paths;
 mod refusals;
 mod room;
 mod save;
+mod shown;
 mod streams;
 
 use args::{Chosen, Command, Service, Work};

@@ -1,6 +1,9 @@
 //! Refusals in words, with the place that they name.
 
 use crate::failure::Failure;
+use crate::fault;
+use crate::lines::{fields, lines};
+use crate::shown::{line_of, shown};
 use yeshqoram::Answer;
 
 /// What a number says (document 01, "Refused calls").
@@ -25,7 +28,7 @@ fn words(number: usize) -> &'static str {
         17 => "a W line whose walk has an empty last step",
         18 => "a path step names no segment",
         19 => "a path step's segment has the sequence *",
-        21 => "no path has that number; the first is number 0",
+        21 => "no path has that number",
         22 => "the answer is longer than the room for it",
         _ => "refused",
     }
@@ -33,13 +36,24 @@ fn words(number: usize) -> &'static str {
 
 pub fn refused(answer: &Answer, text: &[u8]) -> Failure {
     let mut message = format!("refused ({}): {}", answer.number, words(answer.number));
-    if answer.line > 0 {
-        if let Some((line, _)) = lines(text).nth(answer.line - 1) {
-            message += &shown(answer.line, line, 0, line.len());
+    match answer.number {
+        1 | 2 => message += no_text(text),
+        21 => message += &how_many_paths(text),
+        _ => {}
+    }
+    if let Some((line, _)) = answer
+        .line
+        .checked_sub(1)
+        .and_then(|at| lines(text).nth(at))
+    {
+        if let Some(earlier) = earlier(answer.number, text, line) {
+            message += &format!(", on line {earlier}");
         }
+        let place = fault::place(answer.number, line);
+        message += &shown(answer.line, line, place.start, place.len());
     } else if matches!(answer.number, 2 | 3 | 18 | 19) {
         let (number, line, start) = line_of(text, answer.from);
-        message += &shown(number, line, answer.from - start, answer.length);
+        message += &shown(number, line, answer.from - start, answer.length.max(1));
     }
     Failure::Refused(message)
 }
@@ -52,60 +66,29 @@ pub fn too_long(need: usize, most: usize) -> Failure {
     ))
 }
 
-/// The lines with their starts, without their ends.
-fn lines(text: &[u8]) -> impl Iterator<Item = (&[u8], usize)> {
-    let mut start = 0;
-    text.split_inclusive(|&byte| byte == b'\n')
-        .map(move |line| {
-            let at = start;
-            start += line.len();
-            let line = line.strip_suffix(b"\n").unwrap_or(line);
-            (line.strip_suffix(b"\r").unwrap_or(line), at)
-        })
+fn earlier(number: usize, text: &[u8], line: &[u8]) -> Option<usize> {
+    (number == 6).then(|| fault::earlier(text, line)).flatten()
 }
 
-/// The number, the bytes and the start of the line that holds an offset.
-fn line_of(text: &[u8], offset: usize) -> (usize, &[u8], usize) {
-    let start = text[..offset]
-        .iter()
-        .rposition(|&byte| byte == b'\n')
-        .map_or(0, |end| end + 1);
-    let number = text[..start].iter().filter(|&&byte| byte == b'\n').count() + 1;
-    let line = text[start..]
-        .split(|&byte| byte == b'\n')
-        .next()
-        .unwrap_or_default();
-    (number, line, start)
+fn how_many_paths(text: &[u8]) -> String {
+    let path = |line| matches!(fields(line)[0], Some(b"P" | b"W"));
+    match lines(text).filter(|&(line, _)| path(line)).count() {
+        0 => ": the text has no path".to_string(),
+        1 => ": the text has one path, number 0".to_string(),
+        paths => format!(": the text has {paths} paths, numbers 0 to {}", paths - 1),
+    }
 }
 
-/// How many bytes of a line are shown before the place, and from it on.
-const BEFORE: usize = 40;
-const AFTER: usize = 60;
-
-/// A part of the line, and carets under `length` bytes of it from `column` on;
-/// at least one.
-fn shown(number: usize, line: &[u8], column: usize, length: usize) -> String {
-    let first = column.saturating_sub(BEFORE);
-    let last = line.len().min(column.saturating_add(AFTER));
-    let printed = |bytes: &[u8]| -> String {
-        bytes
-            .iter()
-            .flat_map(|&byte| match byte {
-                b'\t' => " ".chars().collect::<Vec<_>>(),
-                b' '..=b'~' => vec![char::from(byte)],
-                _ => format!("\\x{byte:02x}").chars().collect(),
-            })
-            .collect()
-    };
-    let place = column.min(last);
-    let end = place.saturating_add(length).clamp(place, last);
-    let before = printed(&line[first..place]);
-    let marked = printed(&line[place..end]).len().max(1);
-    format!(
-        "\n  line {number}, byte {}: {}\n{}{}",
-        column + 1,
-        printed(&line[first..last]),
-        " ".repeat(format!("  line {number}, byte {}: ", column + 1).len() + before.len()),
-        "^".repeat(marked)
-    )
+/// What a file is that begins as no text does.
+fn no_text(text: &[u8]) -> &'static str {
+    match text {
+        [0x1f, 0x8b, ..] => "; the file is compressed by gzip: unpack it first",
+        [0xef, 0xbb, 0xbf, ..] => {
+            "; the file begins with a byte order mark of UTF-8: save it without one"
+        }
+        [0xfe, 0xff, ..] | [0xff, 0xfe, ..] => {
+            "; the file begins with a byte order mark of UTF-16: save it as plain ASCII"
+        }
+        _ => "",
+    }
 }

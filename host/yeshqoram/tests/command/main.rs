@@ -7,10 +7,13 @@ mod note;
 mod output;
 mod paths;
 mod program;
+mod refusals;
 mod services;
 mod statuses;
 
 // The generators of the differential runs.
+#[path = "../../../cases/src/damage.rs"]
+mod damage;
 #[path = "../../../cases/src/graphs.rs"]
 mod graphs;
 #[path = "../../../cases/src/rng.rs"]

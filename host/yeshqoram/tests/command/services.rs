@@ -43,34 +43,6 @@ fn counters_and_note() {
 }
 
 #[test]
-fn refusals_in_words_with_a_caret() {
-    let text = "S\t1\tAC\nL\t1\t+\t1\t+\t0M\nP\tp\t1+,1+,9+\t*\n";
-    let output = run(&["normalize"], text.as_bytes());
-    assert_eq!(output.status.code(), Some(1));
-    assert!(output.stdout.is_empty());
-    let said = stderr(&output);
-    assert!(said.contains("refused (18): a path step names no segment"));
-    let mut lines = said.lines().skip(1);
-    let (line, carets) = (lines.next().unwrap(), lines.next().unwrap());
-    assert!(line.contains("line 3"));
-    assert_eq!(carets.find('^'), line.rfind('9'));
-    assert_eq!(carets.trim(), "^");
-
-    let high = run(&["report"], b"H\nS\t1\t\xc3\n");
-    assert_eq!(high.status.code(), Some(1));
-    assert!(stderr(&high).contains("refused (2)"));
-    assert!(stderr(&high).contains("line 2, byte 5"));
-
-    let bad_line = run(&["report"], b"H\nS\t1\n");
-    assert!(stderr(&bad_line).contains("refused (5)"));
-    assert!(stderr(&bad_line).contains("line 2"));
-
-    let none = run(&["spell", "7"], LISTING.as_bytes());
-    assert_eq!(none.status.code(), Some(1));
-    assert!(stderr(&none).contains("refused (21)"));
-}
-
-#[test]
 fn wrong_commands() {
     for args in [
         &[][..],
