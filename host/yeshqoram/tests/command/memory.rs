@@ -15,7 +15,7 @@ fn an_answer_that_no_memory_holds() {
     );
 }
 
-/// From the least memory in which the program starts up to enough of it.
+/// From a little more memory than the program starts in up to enough of it.
 #[test]
 fn little_memory() {
     let folder = folder("little");
@@ -28,12 +28,14 @@ fn little_memory() {
     for command in ["report", "normalize --note", "spell --name 59999", "paths"] {
         let (mut short, mut done) = (0, 0);
         for kilobytes in (2_000..80_000).step_by(1_000) {
-            let limit = format!("ulimit -v {kilobytes} && exec $yeshqoram");
-            let starts = shell(&folder, &format!("{limit} --version"), b"");
+            let limited = |kilobytes, command: &str| {
+                format!("ulimit -v {kilobytes} && exec $yeshqoram {command}")
+            };
+            let starts = shell(&folder, &limited(kilobytes - 500, "--version"), b"");
             if !starts.status.success() {
                 continue;
             }
-            let output = shell(&folder, &format!("{limit} {command}"), &text);
+            let output = shell(&folder, &limited(kilobytes, command), &text);
             match output.status.code() {
                 Some(0) => done += 1,
                 Some(2) if stderr(&output).contains("memory") => short += 1,
