@@ -3,9 +3,10 @@
 
 usage:  python3 tools/gfa1_crosscheck.py
 
-Lines come from examples/*.gfa, from the texts of crates/replay/stdin, and from both mutated with a fixed seed. For each
-line the prover computes whether 1.0 and 1.1 allow it, the first column that breaks its expression, whether a segment name
-holds a comma, and the record that it states. Status 1 unless all agree, or where too few lines are allowed or refused.
+Lines come from examples/*.gfa, from the texts of crates/replay/stdin, and from both mutated with a fixed seed; and each of a
+list of values stands in a tag of each type. For each line the prover computes whether 1.0 and 1.1 allow it, the first column
+that breaks its expression, whether a segment name holds a comma, and the record that it states, its tags judged or not.
+Status 1 unless all agree, or where too few lines, or too few tags of a type, are allowed or refused.
 """
 import glob
 import os
@@ -20,7 +21,7 @@ import prover
 # Where the grammar stands: (crate, module of its specs) and the names taken from it.
 USES = {
     ("gfa_spec", "Bytes"): "bytes, same, all, join",
-    ("gfa_spec", "Gfa1"): "Visit, Record, allows, allows10, firstBroken, states, noComma",
+    ("gfa_spec", "Gfa1"): "Visit, Record, allowsUntagged, allows, allows10, firstBroken, states, noComma",
 }
 SEED, REAL, MUTATED, ENOUGH, LONGEST, CHUNK, SHOWN = 7, 300, 150, 50, 90, 50, 20
 
@@ -68,11 +69,20 @@ allowed older plain l texts =
     && sameNumber (firstBroken (bytes l)) none && sameAll (recordTexts (states (bytes l))) (map bytes texts)
 
 -- not allowed, and the first column that is missing or breaks its expression
+broken : ℕ → String → Bool
+broken k l = not (allows (bytes l)) && not (allows10 (bytes l)) && sameNumber (firstBroken (bytes l)) (some k)
+
+-- that column is required: no record is stated
 refused : ℕ → String → Bool
-refused k l = not (allows (bytes l)) && not (allows10 (bytes l)) && sameNumber (firstBroken (bytes l)) (some k)
+refused k l = broken k l && not (allowsUntagged (bytes l)) && sameAll (recordTexts (states (bytes l))) []
+
+-- that column is a tag: the record is stated all the same
+mistagged : ℕ → Bool → String → List String → Bool
+mistagged k plain l texts =
+    broken k l && allowsUntagged (bytes l) && is plain (noComma (bytes l)) && sameAll (recordTexts (states (bytes l))) (map bytes texts)
 
 """
-OWN = ["Option·elim", "visitTexts", "recordTexts", "sameAll", "is", "sameNumber", "allowed", "refused"]
+OWN = ["Option·elim", "visitTexts", "recordTexts", "sameAll", "is", "sameNumber", "allowed", "broken", "refused", "mistagged"]
 
 # ---- the specification
 
@@ -110,7 +120,17 @@ EXPRESSIONS = {
         matches(r"([><][!-;=?-~]+)+"),
     ],
 }
-is_tag = matches(r"[A-Za-z][A-Za-z0-9]:[AifZJHB]:[ -~]*")
+FLOAT = r"[-+]?[0-9]*\.?[0-9]+([eE][-+]?[0-9]+)?"
+VALUES = {
+    "A": r"[!-~]",
+    "i": r"[-+]?[0-9]+",
+    "f": FLOAT,
+    "Z": r"[ !-~]+",
+    "J": r"[ !-~]+",
+    "H": r"[0-9A-F]+",
+    "B": rf"[cCsSiIf](,{FLOAT})+",
+}
+is_tag = matches("|".join(f"([A-Za-z][A-Za-z0-9]:{letter}:({value}))" for letter, value in VALUES.items()))
 
 
 def broken(line):
@@ -128,8 +148,13 @@ def broken(line):
     return 0
 
 
+def required(line):
+    """how many columns a line must have, its letter with them"""
+    return 1 + len(EXPRESSIONS.get(line.split("\t")[0], []))
+
+
 def record(line):
-    """the segment names of an allowed line, and the texts of its record"""
+    """the segment names of a line whose required columns match, and the texts of its record"""
     c = line.split("\t")
     if c[0] == "S":
         return [c[1]], c[1:3]
@@ -158,10 +183,21 @@ def collected():
     return sorted(line for line in lines if len(line) <= LONGEST and re.fullmatch(r"[\t -~]+", line))
 
 
+# Values of tags, each tried with each type.
+TRIED = """|~| |a b|{"a":[1,2]}|0|-07|+1|-|+|12a|1 |1.5|.5|-.5|5.|.|1.2.3|1e5|1E-5|+1.5e+07|.5E1|1e|e5|1e.5|1e2E3|1E2e3|1e2e3|--1
+0AF|af|0x1F|c,1|C,1,-2|s,1|S,|i|I,1,|f,1.5,-.5e3,+7|f,1.,2|x,1|cC,1|c 1|,1|c,,1|B,1""".replace("\n", "|").split("|")
+
+
+def tagged():
+    """lines with a tag of each type and each value, one line in three with another before it"""
+    pairs = [(letter, value) for letter in "AifZJHBx" for value in TRIED]
+    return ["S\ta\tA" + "\tzz:i:-1" * (k % 3 == 0) + f"\tx{k % 10}:{letter}:{value}" for k, (letter, value) in enumerate(pairs)]
+
+
 def mutated(line):
     bs = list(line)
     for _ in range(random.randint(1, 2)):
-        at, byte, what = random.randrange(len(bs) + 1), random.choice("\t+-,*=><:MS0 aZ~."), random.random()
+        at, byte, what = random.randrange(len(bs) + 1), random.choice("\t+-,*=><:MS0 aZ~.eif"), random.random()
         if what < 0.4 or not bs:
             bs.insert(at, byte)
         elif what < 0.7:
@@ -177,7 +213,9 @@ def lines():
     real = collected()
     good = {sort: [line for line in real if sort_of(line) == sort and not broken(line)] for sort in EXPRESSIONS}
     changed = [mutated(random.choice(good[sort])) for sort in EXPRESSIONS for _ in range(MUTATED)]
-    return random.sample(real, min(REAL, len(real))) + changed
+    tags = tagged()
+    changed += [mutated(random.choice([tag for tag in tags if not broken(tag)])) for _ in range(MUTATED)]
+    return random.sample(real, min(REAL, len(real))) + changed + tags
 
 
 # ---- the claims
@@ -192,11 +230,13 @@ def truth(value):
 
 
 def claim(line):
-    if broken(line):
+    if broken(line) and broken(line) <= required(line):
         return f"refused {broken(line)} {quoted(line)}"
     names, texts = record(line)
     plain = not any("," in name for name in names)
     listed = " ∷ ".join([*map(quoted, texts), "[]"])
+    if broken(line):
+        return f"mistagged {broken(line)} {truth(plain)} {quoted(line)} ({listed})"
     return f"allowed {truth(line[0] != 'W')} {truth(plain)} {quoted(line)} ({listed})"
 
 
@@ -212,6 +252,10 @@ def main():
     for verdict in ("allowed", "refused"):
         if sum(verdicts[sort, verdict] for sort in EXPRESSIONS) < ENOUGH:
             sys.exit(f"gfa1_crosscheck: fewer than {ENOUGH} records are {verdict}")
+    for letter in VALUES:
+        judged = Counter(bool(broken(line)) for line in tagged() if line.split("\t")[-1][3] == letter)
+        if judged[False] < 1 or judged[True] < 1:
+            sys.exit(f"gfa1_crosscheck: the tags of type {letter} are all allowed or all refused")
     if wrong:
         sys.exit(f"gfa1_crosscheck: {len(chosen) - len(wrong)} lines agree, {len(wrong)} differ")
     print(f"gfa1_crosscheck: {len(chosen)} lines agree")

@@ -13,9 +13,9 @@ use borrow.Author.Tests.{eqb-true, ne-eqb, le-ltb}
 use Rattle.gfa_spec.specs.Bytes.{bytes, same, isEmpty, any, all, nth, Part, bytesOf, prepend, between, lastByte}
 use Rattle.gfa_spec.specs.Reading.{fields, nowhere, field, Entry, Read, accepted, then, parsePSteps, parseWSteps, parseOrientation, parseS, parseL, parseP, parseW, parseFields, startsComment, parseLine, mapRead}
 use Rattle.gfa_spec.specs.Reading as reading
-use Rattle.gfa_spec.specs.Gfa1.{isName, isOrientation, isTag, items, areItems, walkSteps, isWalk, columns, column, Sort, S, L, P, W, sortOf, lineSort, expressions, fits, allows, brokenFrom, firstBroken, Record, itemVisit, walkVisit, recordOf, states, noCommaIn, noComma}
+use Rattle.gfa_spec.specs.Gfa1.{isName, isOrientation, isTag, items, areItems, walkSteps, isWalk, columns, column, Sort, S, L, P, W, sortOf, lineSort, expressions, begins, fits, allowsUntagged, allows, brokenFrom, firstBroken, Record, itemVisit, walkVisit, recordOf, states, noCommaIn, noComma}
 use Rattle.gfa_spec.specs.Gfa1Read.{pathRecord, stated, nameIn, known, expected}
-use Rattle.gfa_spec.proofs.Tests.{by-test, same-equal}
+use Rattle.gfa_spec.proofs.Tests.{by-test, both, same-equal}
 use Rattle.gfa_spec.proofs.Splitting.{split-between}
 use Rattle.gfa_spec.proofs.Gfa1Steps.{ReadAs, p-steps, w-steps}
 use Rattle.gfa_spec.proofs.Each.{nth-map}
@@ -27,33 +27,33 @@ pub field-column : (k : ℕ) (fs : List Part) → field k fs ≡ column (suc k) 
 unfolding field column nth nowhere bytesOf
 field-column k fs = sym (nth-map bytesOf k fs nowhere)
 
--- a line that fits has all required columns
-fits-length : (es : List (List ℕ → Bool)) (cs : List (List ℕ)) → fits es cs ≡ true → length es ≤ length cs
-unfolding fits
-fits-length [] cs h = omega arith
-fits-length (e ∷ es) [] h = absurd (false≢true h)
-fits-length (e ∷ es) (c ∷ cs) h = omega (arith, fits-length es cs (and-eq-true-iff (e c) (fits es cs) .0 h .1))
+-- a line that begins as it must has all required columns
+begins-length : (es : List (List ℕ → Bool)) (cs : List (List ℕ)) → begins es cs ≡ true → length es ≤ length cs
+unfolding begins
+begins-length [] cs h = omega arith
+begins-length (e ∷ es) [] h = absurd (false≢true h)
+begins-length (e ∷ es) (c ∷ cs) h = omega (arith, begins-length es cs (and-eq-true-iff (e c) (begins es cs) .0 h .1))
 
 -- and each matches its expression
-fits-at : (k : ℕ) (es : List (List ℕ → Bool)) (cs : List (List ℕ)) → k < length es → fits es cs ≡ true → nth k es isName (nth k cs []) ≡ true
-unfolding fits nth
-fits-at k [] cs l h = absurd (omega arith)
-fits-at k (e ∷ es) [] l h = absurd (false≢true h)
-fits-at zero (e ∷ es) (c ∷ cs) l h = and-eq-true-iff (e c) (fits es cs) .0 h .0
-fits-at (suc k) (e ∷ es) (c ∷ cs) l h = fits-at k es cs (omega arith) (and-eq-true-iff (e c) (fits es cs) .0 h .1)
+begins-at : (k : ℕ) (es : List (List ℕ → Bool)) (cs : List (List ℕ)) → k < length es → begins es cs ≡ true → nth k es isName (nth k cs []) ≡ true
+unfolding begins nth
+begins-at k [] cs l h = absurd (omega arith)
+begins-at k (e ∷ es) [] l h = absurd (false≢true h)
+begins-at zero (e ∷ es) (c ∷ cs) l h = and-eq-true-iff (e c) (begins es cs) .0 h .0
+begins-at (suc k) (e ∷ es) (c ∷ cs) l h = begins-at k es cs (omega arith) (and-eq-true-iff (e c) (begins es cs) .0 h .1)
 
 -- ---- lines
 
--- a line that fits its sort has enough fields
-enough : (n : ℕ) (es : List (List ℕ → Bool)) (f : Part) (fs : List Part) → n ≤ suc (length es) → fits es (map bytesOf fs) ≡ true → ltb (length (f ∷ fs)) n ≡ false
-enough n es f fs l h = le-ltb (suc (length fs)) n (omega (arith, fits-length es (map bytesOf fs) h, length-map fs bytesOf))
+-- such a line has enough fields
+enough : (n : ℕ) (es : List (List ℕ → Bool)) (f : Part) (fs : List Part) → n ≤ suc (length es) → begins es (map bytesOf fs) ≡ true → ltb (length (f ∷ fs)) n ≡ false
+enough n es f fs l h = le-ltb (suc (length fs)) n (omega (arith, begins-length es (map bytesOf fs) h, length-map fs bytesOf))
 
 -- and more fields than any fewer
-more-than : (n : ℕ) (es : List (List ℕ → Bool)) (f : Part) (fs : List Part) → n ≤ length es → fits es (map bytesOf fs) ≡ true → eqb (length (f ∷ fs)) n ≡ false
-more-than n es f fs l h = ne-eqb (suc (length fs)) n (λ e. omega (arith, fits-length es (map bytesOf fs) h, length-map fs bytesOf))
+more-than : (n : ℕ) (es : List (List ℕ → Bool)) (f : Part) (fs : List Part) → n ≤ length es → begins es (map bytesOf fs) ≡ true → eqb (length (f ∷ fs)) n ≡ false
+more-than n es f fs l h = ne-eqb (suc (length fs)) n (λ e. omega (arith, begins-length es (map bytesOf fs) h, length-map fs bytesOf))
 
 -- an S line is read as the record of its columns, or refused as 6
-s-reads : (ids : List (List ℕ)) (line f : Part) (fs : List Part) → fits (expressions S) (map bytesOf fs) ≡ true
+s-reads : (ids : List (List ℕ)) (line f : Part) (fs : List Part) → begins (expressions S) (map bytesOf fs) ≡ true
     → mapRead stated (parseS ids line (f ∷ fs)) ≡ expected ids (some (recordOf S (map bytesOf (f ∷ fs))))
 unfolding mapRead parseS expected known nameIn any recordOf stated then expressions
 s-reads ids line f fs h =
@@ -69,13 +69,13 @@ orientation-reads n f h =
     (λ e. rw (same-equal f (bytes "-") (rw e at h)))
 
 -- an L line is read as the record of its columns
-l-reads : (ids : List (List ℕ)) (line f : Part) (fs : List Part) → fits (expressions L) (map bytesOf fs) ≡ true
+l-reads : (ids : List (List ℕ)) (line f : Part) (fs : List Part) → begins (expressions L) (map bytesOf fs) ≡ true
     → mapRead stated (parseL line (f ∷ fs)) ≡ expected ids (some (recordOf L (map bytesOf (f ∷ fs))))
 unfolding mapRead parseL expected known nameIn any recordOf stated then expressions
 l-reads ids line f fs h =
     let cs : List (List ℕ) = map bytesOf (f ∷ fs) in
-    let a : isOrientation (column 3 cs) ≡ true = unfold column nth in fits-at 1 (expressions L) (map bytesOf fs) (omega arith) h in
-    let b : isOrientation (column 5 cs) ≡ true = unfold column nth in fits-at 3 (expressions L) (map bytesOf fs) (omega arith) h in
+    let a : isOrientation (column 3 cs) ≡ true = unfold column nth in begins-at 1 (expressions L) (map bytesOf fs) (omega arith) h in
+    let b : isOrientation (column 5 cs) ≡ true = unfold column nth in begins-at 3 (expressions L) (map bytesOf fs) (omega arith) h in
     rw (
       enough 6 (expressions L) f fs (omega arith) h,
       field-column 1 (f ∷ fs),
@@ -87,25 +87,25 @@ l-reads ids line f fs h =
     )
 
 -- a P line is read as the record of its columns, where no segment name holds a comma
-p-reads : (ids : List (List ℕ)) (f : Part) (fs : List Part) → fits (expressions P) (map bytesOf fs) ≡ true
+p-reads : (ids : List (List ℕ)) (f : Part) (fs : List Part) → begins (expressions P) (map bytesOf fs) ≡ true
     → noCommaIn (recordOf P (map bytesOf (f ∷ fs))) ≡ true
     → mapRead stated (parseP (f ∷ fs)) ≡ expected ids (some (recordOf P (map bytesOf (f ∷ fs))))
 unfolding mapRead parseP expected known nameIn any recordOf stated pathRecord then expressions noCommaIn
 p-reads ids f fs h k =
     let list : Part = nth 2 (f ∷ fs) nowhere in
     let e : list .bytes ≡ column 3 (map bytesOf (f ∷ fs)) = unfold field in field-column 2 (f ∷ fs) in
-    let a : areItems (column 3 (map bytesOf (f ∷ fs))) ≡ true = unfold column nth in fits-at 1 (expressions P) (map bytesOf fs) (omega arith) h in
+    let a : areItems (column 3 (map bytesOf (f ∷ fs))) ≡ true = unfold column nth in begins-at 1 (expressions P) (map bytesOf fs) (omega arith) h in
     let r : ReadAs (map itemVisit (items (list .bytes))) (parsePSteps list) = p-steps list (rw e a) (rw e k) in
     rw (enough 3 (expressions P) f fs (omega arith) h, r .accepts, more-than 3 (expressions P) f fs (omega arith) h, append-nil (map bytesOf fs), r .equal, e)
 
 -- a W line is read as the record of its columns
-w-reads : (ids : List (List ℕ)) (f : Part) (fs : List Part) → fits (expressions W) (map bytesOf fs) ≡ true
+w-reads : (ids : List (List ℕ)) (f : Part) (fs : List Part) → begins (expressions W) (map bytesOf fs) ≡ true
     → mapRead stated (parseW (f ∷ fs)) ≡ expected ids (some (recordOf W (map bytesOf (f ∷ fs))))
 unfolding mapRead parseW expected known nameIn any recordOf stated pathRecord then expressions
 w-reads ids f fs h =
     let steps : Part = nth 6 (f ∷ fs) nowhere in
     let e : steps .bytes ≡ column 7 (map bytesOf (f ∷ fs)) = unfold field in field-column 6 (f ∷ fs) in
-    let a : isWalk (column 7 (map bytesOf (f ∷ fs))) ≡ true = unfold column nth in fits-at 5 (expressions W) (map bytesOf fs) (omega arith) h in
+    let a : isWalk (column 7 (map bytesOf (f ∷ fs))) ≡ true = unfold column nth in begins-at 5 (expressions W) (map bytesOf fs) (omega arith) h in
     let r : ReadAs (map walkVisit (walkSteps (steps .bytes))) (parseWSteps steps) = w-steps (steps .at) (steps .bytes) (rw e a) in
     rw (enough 7 (expressions W) f fs (omega arith) h, r .accepts, r .equal, e)
 
@@ -133,7 +133,7 @@ sort-letter f s h =
     absurd (Option·none-ne-some s (rw (e, d, c, b) at h))
 
 -- the reader at a sort
-unfoldable parseAs : Sort → List (List ℕ) → Part → List Part → Read Entry
+unfoldable pub parseAs : Sort → List (List ℕ) → Part → List Part → Read Entry
 parseAs S ids line fs = parseS ids line fs
 parseAs L ids line fs = parseL line fs
 parseAs P ids line fs = parseP fs
@@ -148,19 +148,19 @@ sort-parse P ids line fs e = rw e
 sort-parse W ids line fs e = rw e
 
 -- every sort has required columns
-fits-none : (s : Sort) → fits (expressions s) [] ≡ false
-unfolding fits expressions
-fits-none S = refl
-fits-none L = refl
-fits-none P = refl
-fits-none W = refl
+begins-none : (s : Sort) → begins (expressions s) [] ≡ false
+unfolding begins expressions
+begins-none S = refl
+begins-none L = refl
+begins-none P = refl
+begins-none W = refl
 
 -- a line is read as the record of its columns
-sort-reads : (s : Sort) (ids : List (List ℕ)) (line : Part) (fs : List Part) → fits (expressions s) (tail (map bytesOf fs)) ≡ true
+sort-reads : (s : Sort) (ids : List (List ℕ)) (line : Part) (fs : List Part) → begins (expressions s) (tail (map bytesOf fs)) ≡ true
     → noCommaIn (recordOf s (map bytesOf fs)) ≡ true
     → mapRead stated (parseAs s ids line fs) ≡ expected ids (some (recordOf s (map bytesOf fs)))
 unfolding parseAs
-sort-reads s ids line [] h k = absurd (true≢false (sym h ∙ fits-none s))
+sort-reads s ids line [] h k = absurd (true≢false (sym h ∙ begins-none s))
 sort-reads S ids line (f ∷ fs) h k = s-reads ids line f fs h
 sort-reads L ids line (f ∷ fs) h k = l-reads ids line f fs h
 sort-reads P ids line (f ∷ fs) h k = p-reads ids f fs h k
@@ -203,33 +203,33 @@ unfolding fields columns
 fields-columns line = split-between 9 (line .at) (line .bytes)
 
 -- a line of a sort is parsed as that sort
-line-parse : (s : Sort) (ids : List (List ℕ)) (line : Part) → lineSort (line .bytes) ≡ some s → parseLine ids line ≡ parseAs s ids line (fields line)
+pub line-parse : (s : Sort) (ids : List (List ℕ)) (line : Part) → lineSort (line .bytes) ≡ some s → parseLine ids line ≡ parseAs s ids line (fields line)
 unfolding parseLine lineSort
 line-parse s ids line e =
     let letter : column 1 (columns (line .bytes)) ≡ letterOf s = sort-letter (column 1 (columns (line .bytes))) s e in
     let starts = sort-starts (line .bytes) s letter in
     rw (starts .0, starts .1) (sort-parse s ids line (fields line) (field-column 0 (fields line) ∙ ap (column 1) (fields-columns line) ∙ letter))
 
--- and if it fits, read as the record of its columns
-line-reads : (s : Sort) (ids : List (List ℕ)) (line : Part) → lineSort (line .bytes) ≡ some s
-    → fits (expressions s) (tail (columns (line .bytes))) ≡ true → noCommaIn (recordOf s (columns (line .bytes))) ≡ true
+-- and if it begins as it must, read as the record of its columns
+pub line-reads : (s : Sort) (ids : List (List ℕ)) (line : Part) → lineSort (line .bytes) ≡ some s
+    → begins (expressions s) (tail (columns (line .bytes))) ≡ true → noCommaIn (recordOf s (columns (line .bytes))) ≡ true
     → mapRead stated (parseLine ids line) ≡ expected ids (some (recordOf s (columns (line .bytes))))
 line-reads s ids line e h k =
     let c = fields-columns line in
     rw (line-parse s ids line e) (rw c at (sort-reads s ids line (fields line) (rw c h) (rw c k)))
 
 -- a line of no sort is not allowed
-none-allows : (line : List ℕ) → lineSort line ≡ none → allows line ≡ false
-unfolding allows Option·elim
+none-allows : (line : List ℕ) → lineSort line ≡ none → allowsUntagged line ≡ false
+unfolding allowsUntagged Option·elim
 none-allows line e = rw e
 
--- a line of a sort is allowed where it fits
-sort-allows : (s : Sort) (line : List ℕ) → lineSort line ≡ some s → allows line ≡ fits (expressions s) (tail (columns line))
-unfolding allows Option·elim
-sort-allows s line e = rw e
+-- a line of a sort that is allowed begins as it must
+allows-begins : (s : Sort) (line : List ℕ) → lineSort line ≡ some s → allowsUntagged line ≡ true → begins (expressions s) (tail (columns line)) ≡ true
+unfolding allowsUntagged Option·elim
+allows-begins s line e h = rw e at h
 
 -- and states the record of its columns
-sort-states : (s : Sort) (line : List ℕ) → lineSort line ≡ some s → allows line ≡ true → states line ≡ some (recordOf s (columns line))
+sort-states : (s : Sort) (line : List ℕ) → lineSort line ≡ some s → allowsUntagged line ≡ true → states line ≡ some (recordOf s (columns line))
 unfolding states Option·elim
 sort-states s line e h = rw (e, h)
 
@@ -238,9 +238,19 @@ states-comma : (r : Record) (line : List ℕ) → states line ≡ some r → noC
 unfolding noComma Option·elim
 states-comma r line e = rw e
 
+-- What is allowed is allowed whatever its tags are.
+pub allows-untagged : (line : List ℕ) → allows line ≡ true → allowsUntagged line ≡ true
+unfolding allows allowsUntagged
+allows-untagged line = by-sort (lineSort line)
+  where
+    by-sort : (o : Option Sort) → Option·elim o false (λ s. fits (expressions s) (tail (columns line))) ≡ true
+        → Option·elim o false (λ s. begins (expressions s) (tail (columns line))) ≡ true
+    by-sort none = unfold Option·elim in λ h. h
+    by-sort (some s) = unfold Option·elim fits in λ h. both {a = begins (expressions s) (tail (columns line))} h .0
+
 -- The reader accepts every line that the specification allows, no segment name holding a comma, unless a segment's name was read before.
--- It reads the record that the line states.
-pub reads : (ids : List (List ℕ)) (line : Part) → allows (line .bytes) ≡ true → noComma (line .bytes) ≡ true
+-- It reads the record that the line states. Tags play no part in this: they are taken as they stand, allowed or not.
+pub reads : (ids : List (List ℕ)) (line : Part) → allowsUntagged (line .bytes) ≡ true → noComma (line .bytes) ≡ true
     → mapRead stated (parseLine ids line) ≡ expected ids (states (line .bytes))
 reads ids line h k = by-sort (lineSort (line .bytes)) refl
   where
@@ -248,13 +258,13 @@ reads ids line h k = by-sort (lineSort (line .bytes)) refl
     by-sort none e = absurd (true≢false (sym h ∙ none-allows (line .bytes) e))
     by-sort (some s) e =
         let r = sort-states s (line .bytes) e h in
-        rw r (line-reads s ids line e (sym (sort-allows s (line .bytes) e) ∙ h) (sym (states-comma (recordOf s (columns (line .bytes))) (line .bytes) r) ∙ k))
+        rw r (line-reads s ids line e (allows-begins s (line .bytes) e h) (sym (states-comma (recordOf s (columns (line .bytes))) (line .bytes) r) ∙ k))
 
 -- ---- the first broken column
 
 -- tags are broken where they do not match
 broken-tags : (k : ℕ) (cs : List (List ℕ)) → (brokenFrom k [] cs ≡ none) ↔ (fits [] cs ≡ true)
-unfolding brokenFrom fits all
+unfolding brokenFrom fits begins all
 broken-tags k [] = (λ h. refl, λ h. refl)
 broken-tags k (c ∷ cs) =
     by-test (isTag c)
@@ -263,7 +273,7 @@ broken-tags k (c ∷ cs) =
 
 -- and so is any column
 broken-fits : (k : ℕ) (es : List (List ℕ → Bool)) (cs : List (List ℕ)) → (brokenFrom k es cs ≡ none) ↔ (fits es cs ≡ true)
-unfolding brokenFrom fits
+unfolding brokenFrom fits begins
 broken-fits k [] cs = broken-tags k cs
 broken-fits k (e ∷ es) [] = (λ h. absurd (Option·some-ne-none k h), λ h. absurd (false≢true h))
 broken-fits k (e ∷ es) (c ∷ cs) =

@@ -8,7 +8,7 @@ use lib.Dec.{T, eqb}
 use Rattle.gfa_spec.specs.Bytes.{bytes, same, all, join}
 use Rattle.gfa_spec.specs.Reading.{segment, link, path, Read, refused, accepted, walk, parseLine, mapRead}
 use Rattle.gfa_spec.specs.Reading as reading
-use Rattle.gfa_spec.specs.Gfa1.{inClass, matches, isName, isSign, endsItem, holdsEnd, isSegmentName, isSequence, isOrientation, isIndex, isPosition, isCigar, isOverlap, isTag, areOverlaps, items, isItem, areItems, startsStep, walkSteps, isWalkStep, isWalk, columns, column, sortOf, lineSort, expressions, fits, allows, allows10, brokenFrom, firstBroken, Visit, Record, itemVisit, walkVisit, recordOf, states, lacksComma, noCommaIn, noComma}
+use Rattle.gfa_spec.specs.Gfa1.{inClass, matches, isName, isSign, endsItem, holdsEnd, isSegmentName, isSequence, isOrientation, isIndex, isPosition, isCigar, isOverlap, isCharacter, afterSign, isInteger, areDigits, areScaled, isFloat, isPrinted, isHex, areNumbers, isArray, isTyped, isTag, areOverlaps, items, isItem, areItems, startsStep, walkSteps, isWalkStep, isWalk, columns, column, sortOf, lineSort, expressions, begins, fits, allowsUntagged, allows, allows10, brokenFrom, firstBroken, Visit, Record, itemVisit, walkVisit, recordOf, states, lacksComma, noCommaIn, noComma}
 use Rattle.gfa_spec.specs.Gfa1Read.{visitOf, pathRecord, stated}
 use Rattle.gfa_spec.proofs.Computing.{computing}
 
@@ -109,6 +109,28 @@ table =
     ∷ broken 4 "S\ta\tA\tRC:x:1"
     ∷ broken 4 "S\ta\tA\t"
     ∷ broken 5 "S\ta\tA\tRC:i:1\tR:i:1"
+    -- tags
+    ∷ both "S\ta\tA\tx0:A:~\tx1:i:-07\tx2:f:+.5e-3\tx3:Z: \tx4:J:{}\tx5:H:0AF\tx6:B:c,1,-2"
+    ∷ both "S\ta\tA\txx:f:1\tyy:f:1E+2\tzz:f:10.25"
+    ∷ both "S\ta\tA\txx:B:f,-1.5e3,.5,7"
+    ∷ broken 4 "S\ta\tA\tRC:i:xyz"
+    ∷ broken 4 "S\ta\tA\tRC:i:"
+    ∷ broken 4 "S\ta\tA\tRC:i:1.5"
+    ∷ broken 4 "S\ta\tA\tRC:i:-"
+    ∷ broken 4 "S\ta\tA\txx:A:ab"
+    ∷ broken 4 "S\ta\tA\txx:A: "
+    ∷ broken 4 "S\ta\tA\txx:f:1."
+    ∷ broken 4 "S\ta\tA\txx:f:1e"
+    ∷ broken 4 "S\ta\tA\txx:f:1e2E3"
+    ∷ broken 4 "S\ta\tA\txx:f:1.2.3"
+    ∷ broken 4 "S\ta\tA\txx:f:1e.5"
+    ∷ broken 4 "S\ta\tA\txx:Z:"
+    ∷ broken 4 "S\ta\tA\txx:H:af"
+    ∷ broken 4 "S\ta\tA\txx:B:c"
+    ∷ broken 4 "S\ta\tA\txx:B:c,"
+    ∷ broken 4 "S\ta\tA\txx:B:x,1"
+    ∷ broken 4 "S\ta\tA\t1x:i:1"
+    ∷ read "S\ta\tA\tRC:i:xyz" ("a" ∷ "A" ∷ [])
     -- links
     ∷ both "L\t11\t+\t12\t-\t4M"
     ∷ both "L\t1\t+\t1\t+\t*\tMQ:i:40"
@@ -168,5 +190,5 @@ table =
 
 -- Every row holds.
 pub table-holds : T (all (λ b. b) table)
-unfolding table both newer comma broken says read stops reading-of readsTexts refusesAs visitTexts recordTexts sameAll sameNumber inClass matches isName isSign endsItem holdsEnd isSegmentName isSequence isOrientation isIndex isPosition isCigar isOverlap isTag areOverlaps items isItem areItems startsStep walkSteps isWalkStep isWalk columns column sortOf lineSort expressions fits Option·elim allows allows10 brokenFrom firstBroken itemVisit walkVisit recordOf states lacksComma noCommaIn noComma visitOf pathRecord stated computing
+unfolding table both newer comma broken says read stops reading-of readsTexts refusesAs visitTexts recordTexts sameAll sameNumber inClass matches isName isSign endsItem holdsEnd isSegmentName isSequence isOrientation isIndex isPosition isCigar isOverlap isCharacter afterSign isInteger areDigits areScaled isFloat isPrinted isHex areNumbers isArray isTyped isTag areOverlaps items isItem areItems startsStep walkSteps isWalkStep isWalk columns column sortOf lineSort expressions begins fits Option·elim allowsUntagged allows allows10 brokenFrom firstBroken itemVisit walkVisit recordOf states lacksComma noCommaIn noComma visitOf pathRecord stated computing
 table-holds = tt

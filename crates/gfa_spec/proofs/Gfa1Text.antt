@@ -9,7 +9,7 @@ use borrow.Author.Tests.{not-true}
 use Rattle.gfa_spec.specs.Bytes.{bytes, same, isEmpty, any, all, Part, one, nil}
 use Rattle.gfa_spec.specs.Reading.{lines, fields, field, Kind, Entry, header, comment, blank, other, segment, link, path, refused, accepted, parseFields, startsComment, parseLine, parsed, idOf, after, parseLines, parse, mapRead, onward, choose}
 use Rattle.gfa_spec.specs.Calls.{badByte, entries, input}
-use Rattle.gfa_spec.specs.Gfa1.{Sort, S, L, P, W, sortOf, lineSort, allows, Visit, states, noComma, conforms}
+use Rattle.gfa_spec.specs.Gfa1.{Sort, S, L, P, W, sortOf, lineSort, allowsUntagged, Visit, states, noComma, conforms}
 use Rattle.gfa_spec.specs.Gfa1Read.{visitOf, pathRecord, stated, nameIn, known, expected, Agree, fresh}
 use Rattle.gfa_spec.proofs.Tests.{by-test, both}
 use Rattle.gfa_spec.proofs.Gfa1.{field-column, fields-columns, reads}
@@ -48,7 +48,7 @@ unfolding states Option·elim
 none-states line e = rw e
 
 -- a line of a sort conforms where it is allowed, no segment name holding a comma
-sort-conforms : (s : Sort) (line : List ℕ) → lineSort line ≡ some s → conforms line ≡ (allows line && noComma line)
+sort-conforms : (s : Sort) (line : List ℕ) → lineSort line ≡ some s → conforms line ≡ (allowsUntagged line && noComma line)
 unfolding conforms Option·elim
 sort-conforms s line e = rw e
 
@@ -59,7 +59,7 @@ conforms-reads ids line h = by-sort (lineSort (line .bytes)) refl
     by-sort : (o : Option Sort) → lineSort (line .bytes) ≡ o → mapRead stated (parseLine ids line) ≡ expected ids (states (line .bytes))
     by-sort none e = unfold expected known nameIn any in rw (none-states (line .bytes) e) (none-reads ids line e)
     by-sort (some s) e =
-        let k : (allows (line .bytes) ≡ true) × (noComma (line .bytes) ≡ true) = both (sym (sort-conforms s (line .bytes) e) ∙ h) in
+        let k : (allowsUntagged (line .bytes) ≡ true) × (noComma (line .bytes) ≡ true) = both (sym (sort-conforms s (line .bytes) e) ∙ h) in
         reads ids line (k .0) (k .1)
 
 -- ---- texts

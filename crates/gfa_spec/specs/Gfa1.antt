@@ -7,7 +7,7 @@ use mathlib.Core.Bool.{Bool, true, false, cond, not, _&&_, _||_}
 use mathlib.Core.List.{List, [], _∷_, map, tail, dropLast}
 use mathlib.Core.Option.{Option, none, some, Option·elim}
 use lib.Dec.{eqb, leb}
-use lib.ListN.{drop}
+use lib.ListN.{length, take, drop}
 use Rattle.gfa_spec.specs.Bytes.{bytes, same, star, isEmpty, all, nth, lastByte, prepend, between}
 
 -- ---- classes of bytes
@@ -77,9 +77,65 @@ isCigar counted (b ∷ (c ∷ bs)) =
 unfoldable pub isOverlap : List ℕ → Bool
 isOverlap f = same f star || isCigar false f
 
--- `[A-Za-z][A-Za-z0-9]:[AifZJHB]:.*`, of printable bytes
+-- ---- tags ("Optional fields": TAG:TYPE:VALUE, and the table of types with the expression of each value)
+
+-- A: `[!-~]`
+unfoldable pub isCharacter : List ℕ → Bool
+isCharacter = matches ("!-~" ∷ []) ""
+
+-- what follows a + or - at the front, or the whole string: what is left of `[-+]?`
+unfoldable pub afterSign : List ℕ → List ℕ
+afterSign [] = []
+afterSign (b ∷ bs) = cond (isSign b) bs (b ∷ bs)
+
+-- i: `[-+]?[0-9]+`
+unfoldable pub isInteger : List ℕ → Bool
+isInteger v = isIndex (afterSign v)
+
+-- `[0-9]*\.?[0-9]+`, of the strings between its points
+unfoldable pub areDigits : List (List ℕ) → Bool
+areDigits [] = false
+areDigits (a ∷ []) = isIndex a
+areDigits (a ∷ (b ∷ [])) = matches [] "0-9" a && isIndex b
+areDigits (a ∷ (b ∷ (c ∷ cs))) = false
+
+-- `[0-9]*\.?[0-9]+(e[-+]?[0-9]+)?`, of the strings between the bytes e; a point is 46
+unfoldable pub areScaled : List (List ℕ) → Bool
+areScaled [] = false
+areScaled (a ∷ []) = areDigits (between 46 a)
+areScaled (a ∷ (b ∷ [])) = areDigits (between 46 a) && isInteger b
+areScaled (a ∷ (b ∷ (c ∷ cs))) = false
+
+-- f: `[-+]?[0-9]*\.?[0-9]+([eE][-+]?[0-9]+)?`; e is 101, E is 69
+unfoldable pub isFloat : List ℕ → Bool
+isFloat v = areScaled (between 101 (afterSign v)) || areScaled (between 69 (afterSign v))
+
+-- Z and J: `[ !-~]+`
+unfoldable pub isPrinted : List ℕ → Bool
+isPrinted = matches (" !-~" ∷ []) " !-~"
+
+-- H: `[0-9A-F]+`
+unfoldable pub isHex : List ℕ → Bool
+isHex = matches ("0-9A-F" ∷ []) "0-9A-F"
+
+-- `[cCsSiIf](,[-+]?[0-9]*\.?[0-9]+([eE][-+]?[0-9]+)?)+`, of the strings between its commas
+unfoldable pub areNumbers : List (List ℕ) → Bool
+areNumbers [] = false
+areNumbers (kind ∷ numbers) = matches ("cCsSiIf" ∷ []) "" kind && not (isEmpty numbers) && all isFloat numbers
+
+-- B: the same, of the value
+unfoldable pub isArray : List ℕ → Bool
+isArray v = areNumbers (between 44 v)
+
+-- `[A-Za-z][A-Za-z0-9]:[types]:`, five bytes, and then a value that passes the test
+unfoldable pub isTyped : String → (List ℕ → Bool) → List ℕ → Bool
+isTyped types value f = matches ("A-Za-z" ∷ "A-Za-z0-9" ∷ ":" ∷ types ∷ ":" ∷ []) "" (take 5 f) && value (drop 5 f)
+
+-- a tag, its value by its type. That a TAG comes only once in a line is not asked.
 unfoldable pub isTag : List ℕ → Bool
-isTag = matches ("A-Za-z" ∷ "A-Za-z0-9" ∷ ":" ∷ "AifZJHB" ∷ ":" ∷ []) " -~"
+isTag f =
+    isTyped "A" isCharacter f || isTyped "i" isInteger f || isTyped "f" isFloat f || isTyped "ZJ" isPrinted f || isTyped "H" isHex f
+    || isTyped "B" isArray f
 
 -- ---- lists in a field
 
@@ -155,11 +211,19 @@ expressions L = isSegmentName ∷ isOrientation ∷ isSegmentName ∷ isOrientat
 expressions P = isName ∷ areItems ∷ areOverlaps ∷ []
 expressions W = isName ∷ isIndex ∷ isName ∷ isPosition ∷ isPosition ∷ isWalk ∷ []
 
+-- each required column matches its expression, whatever stands after those: the tags are not judged
+unfoldable pub begins : List (List ℕ → Bool) → List (List ℕ) → Bool
+begins [] cs = true
+begins (e ∷ es) [] = false
+begins (e ∷ es) (c ∷ cs) = e c && begins es cs
+
 -- each column matches its expression, and each after those is a tag
 unfoldable pub fits : List (List ℕ → Bool) → List (List ℕ) → Bool
-fits [] cs = all isTag cs
-fits (e ∷ es) [] = false
-fits (e ∷ es) (c ∷ cs) = e c && fits es cs
+fits es cs = begins es cs && all isTag (drop (length es) cs)
+
+-- is the line an S, L, P or W line of GFA 1.1, whatever its tags are?
+unfoldable pub allowsUntagged : List ℕ → Bool
+allowsUntagged line = Option·elim (lineSort line) false (λ s. begins (expressions s) (tail (columns line)))
 
 -- is the line an S, L, P or W line of GFA 1.1?
 unfoldable pub allows : List ℕ → Bool
@@ -212,9 +276,9 @@ recordOf W cs =
     walk (column 2 cs) (column 3 cs) (column 4 cs) (column 5 cs) (column 6 cs) (column 7 cs)
     (map walkVisit (walkSteps (column 7 cs))) (drop 7 cs)
 
--- the record that a line states, if it is allowed
+-- the record that a line states, if its required columns match; its tags are taken as they stand
 unfoldable pub states : List ℕ → Option Record
-states line = Option·elim (lineSort line) none (λ s. cond (allows line) (some (recordOf s (columns line))) none)
+states line = Option·elim (lineSort line) none (λ s. cond (allowsUntagged line) (some (recordOf s (columns line))) none)
 
 -- ---- commas: the specification allows them inside segment names, and the Rust splits a P list at every comma
 
@@ -233,6 +297,6 @@ noCommaIn (walk sample haplotype sequence start end steps visits tags) = all (λ
 unfoldable pub noComma : List ℕ → Bool
 noComma line = Option·elim (states line) true noCommaIn
 
--- an S, L, P or W line that is allowed, no segment name holding a comma; or a line of another sort
+-- an S, L, P or W line that is allowed, whatever its tags are, no segment name holding a comma; or a line of another sort
 unfoldable pub conforms : List ℕ → Bool
-conforms line = Option·elim (lineSort line) true (λ s. allows line && noComma line)
+conforms line = Option·elim (lineSort line) true (λ s. allowsUntagged line && noComma line)
