@@ -39,9 +39,9 @@ visitTexts v = v .name ∷ (v .orientation ∷ []) ∷ []
 
 recordTexts : Option Record → List (List ℕ)
 recordTexts none = []
-recordTexts (some (Record.segment name sequence)) = name ∷ sequence ∷ []
-recordTexts (some (Record.link from fromOrientation to toOrientation)) =
-    from ∷ (fromOrientation ∷ []) ∷ to ∷ (toOrientation ∷ []) ∷ []
+recordTexts (some (Record.segment name sequence tags)) = name ∷ sequence ∷ tags
+recordTexts (some (Record.link from fromOrientation to toOrientation overlap tags)) =
+    from ∷ (fromOrientation ∷ []) ∷ to ∷ (toOrientation ∷ []) ∷ overlap ∷ tags
 recordTexts (some (Record.path name visits overlaps tags)) = name ∷ (join (map visitTexts visits) ++ (overlaps ∷ tags))
 recordTexts (some (Record.walk sample haplotype sequence start end steps visits tags)) =
     sample ∷ haplotype ∷ sequence ∷ start ∷ end ∷ (join (map visitTexts visits) ++ tags)
@@ -157,9 +157,9 @@ def record(line):
     """the segment names of a line whose required columns match, and the texts of its record"""
     c = line.split("\t")
     if c[0] == "S":
-        return [c[1]], c[1:3]
+        return [c[1]], c[1:]
     if c[0] == "L":
-        return [c[1], c[3]], c[1:5]
+        return [c[1], c[3]], c[1:]
     if c[0] == "P":
         visits = [(item[:-1], item[-1]) for item in items(c[2])]
         return [name for name, _ in visits], [c[1]] + [x for v in visits for x in v] + c[3:]

@@ -53,12 +53,12 @@ more-than : (n : ℕ) (es : List (List ℕ → Bool)) (f : Part) (fs : List Part
 more-than n es f fs l h = ne-eqb (suc (length fs)) n (λ e. omega (arith, begins-length es (map bytesOf fs) h, length-map fs bytesOf))
 
 -- an S line is read as the record of its columns, or refused as 6
-s-reads : (ids : List (List ℕ)) (line f : Part) (fs : List Part) → begins (expressions S) (map bytesOf fs) ≡ true
+s-reads : (ids : List (List ℕ)) (line f : Part) (fs : List Part) → columns (line .bytes) ≡ map bytesOf (f ∷ fs) → begins (expressions S) (map bytesOf fs) ≡ true
     → mapRead stated (parseS ids line (f ∷ fs)) ≡ expected ids (some (recordOf S (map bytesOf (f ∷ fs))))
 unfolding mapRead parseS expected known nameIn any recordOf stated then expressions
-s-reads ids line f fs h =
+s-reads ids line f fs c h =
     rw (enough 3 (expressions S) f fs (omega arith) h, field-column 1 (f ∷ fs), field-column 2 (f ∷ fs))
-    (by-test (any (same (column 2 (map bytesOf (f ∷ fs)))) ids) (λ e. rw e) (λ e. rw e))
+    (by-test (any (same (column 2 (map bytesOf (f ∷ fs)))) ids) (λ e. rw e) (λ e. rw (e, c)))
 
 -- the reader reads an orientation that matches its expression
 orientation-reads : (n : ℕ) (f : List ℕ) → isOrientation f ≡ true → parseOrientation n f ≡ accepted (lastByte f)
@@ -69,10 +69,10 @@ orientation-reads n f h =
     (λ e. rw (same-equal f (bytes "-") (rw e at h)))
 
 -- an L line is read as the record of its columns
-l-reads : (ids : List (List ℕ)) (line f : Part) (fs : List Part) → begins (expressions L) (map bytesOf fs) ≡ true
+l-reads : (ids : List (List ℕ)) (line f : Part) (fs : List Part) → columns (line .bytes) ≡ map bytesOf (f ∷ fs) → begins (expressions L) (map bytesOf fs) ≡ true
     → mapRead stated (parseL line (f ∷ fs)) ≡ expected ids (some (recordOf L (map bytesOf (f ∷ fs))))
 unfolding mapRead parseL expected known nameIn any recordOf stated then expressions
-l-reads ids line f fs h =
+l-reads ids line f fs c h =
     let cs : List (List ℕ) = map bytesOf (f ∷ fs) in
     let a : isOrientation (column 3 cs) ≡ true = unfold column nth in begins-at 1 (expressions L) (map bytesOf fs) (omega arith) h in
     let b : isOrientation (column 5 cs) ≡ true = unfold column nth in begins-at 3 (expressions L) (map bytesOf fs) (omega arith) h in
@@ -84,6 +84,7 @@ l-reads ids line f fs h =
       field-column 4 (f ∷ fs),
       orientation-reads 8 (column 3 cs) a,
       orientation-reads 10 (column 5 cs) b,
+      c,
     )
 
 -- a P line is read as the record of its columns, where no segment name holds a comma
@@ -156,15 +157,15 @@ begins-none P = refl
 begins-none W = refl
 
 -- a line is read as the record of its columns
-sort-reads : (s : Sort) (ids : List (List ℕ)) (line : Part) (fs : List Part) → begins (expressions s) (tail (map bytesOf fs)) ≡ true
-    → noCommaIn (recordOf s (map bytesOf fs)) ≡ true
+sort-reads : (s : Sort) (ids : List (List ℕ)) (line : Part) (fs : List Part) → columns (line .bytes) ≡ map bytesOf fs
+    → begins (expressions s) (tail (map bytesOf fs)) ≡ true → noCommaIn (recordOf s (map bytesOf fs)) ≡ true
     → mapRead stated (parseAs s ids line fs) ≡ expected ids (some (recordOf s (map bytesOf fs)))
 unfolding parseAs
-sort-reads s ids line [] h k = absurd (true≢false (sym h ∙ begins-none s))
-sort-reads S ids line (f ∷ fs) h k = s-reads ids line f fs h
-sort-reads L ids line (f ∷ fs) h k = l-reads ids line f fs h
-sort-reads P ids line (f ∷ fs) h k = p-reads ids f fs h k
-sort-reads W ids line (f ∷ fs) h k = w-reads ids f fs h
+sort-reads s ids line [] c h k = absurd (true≢false (sym h ∙ begins-none s))
+sort-reads S ids line (f ∷ fs) c h k = s-reads ids line f fs c h
+sort-reads L ids line (f ∷ fs) c h k = l-reads ids line f fs c h
+sort-reads P ids line (f ∷ fs) c h k = p-reads ids f fs h k
+sort-reads W ids line (f ∷ fs) c h k = w-reads ids f fs h
 
 -- a letter is no empty string, and starts no comment
 letter-starts : (t : Sort) → (isEmpty (letterOf t) ≡ false) × (startsComment (letterOf t) ≡ false)
@@ -216,7 +217,7 @@ pub line-reads : (s : Sort) (ids : List (List ℕ)) (line : Part) → lineSort (
     → mapRead stated (parseLine ids line) ≡ expected ids (some (recordOf s (columns (line .bytes))))
 line-reads s ids line e h k =
     let c = fields-columns line in
-    rw (line-parse s ids line e) (rw c at (sort-reads s ids line (fields line) (rw c h) (rw c k)))
+    rw (line-parse s ids line e) (rw c at (sort-reads s ids line (fields line) (sym c) (rw c h) (rw c k)))
 
 -- a line of no sort is not allowed
 none-allows : (line : List ℕ) → lineSort line ≡ none → allowsUntagged line ≡ false

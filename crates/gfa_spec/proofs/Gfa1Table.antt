@@ -21,8 +21,9 @@ visitTexts v = v .name ∷ (v .orientation ∷ []) ∷ []
 -- the texts of a record, in order
 recordTexts : Option Record → List (List ℕ)
 recordTexts none = []
-recordTexts (some (Record.segment name sequence)) = name ∷ sequence ∷ []
-recordTexts (some (Record.link from fromOrientation to toOrientation)) = from ∷ (fromOrientation ∷ []) ∷ to ∷ (toOrientation ∷ []) ∷ []
+recordTexts (some (Record.segment name sequence tags)) = name ∷ sequence ∷ tags
+recordTexts (some (Record.link from fromOrientation to toOrientation overlap tags)) =
+    from ∷ (fromOrientation ∷ []) ∷ to ∷ (toOrientation ∷ []) ∷ overlap ∷ tags
 recordTexts (some (Record.path name visits overlaps tags)) = name ∷ (join (map visitTexts visits) ++ (overlaps ∷ tags))
 recordTexts (some (Record.walk sample haplotype sequence start end steps visits tags)) =
     sample ∷ haplotype ∷ sequence ∷ start ∷ end ∷ (join (map visitTexts visits) ++ tags)
@@ -92,6 +93,7 @@ table =
     both "S\t11\tACCTT"
     ∷ both "S\t1\t*"
     ∷ both "S\t1\tACGTCACANNN\tRC:i:1232\tLN:i:11\tab:Z:a b,c"
+    ∷ says "S\t1\tACGT\tRC:i:1232\tab:Z:a b" ("1" ∷ "ACGT" ∷ "RC:i:1232" ∷ "ab:Z:a b" ∷ [])
     ∷ both "S\tA+B\tac=.N"
     ∷ both "S\ta*=\t*"
     ∷ comma "S\tA,B\t*"
@@ -130,11 +132,12 @@ table =
     ∷ broken 4 "S\ta\tA\txx:B:c,"
     ∷ broken 4 "S\ta\tA\txx:B:x,1"
     ∷ broken 4 "S\ta\tA\t1x:i:1"
-    ∷ read "S\ta\tA\tRC:i:xyz" ("a" ∷ "A" ∷ [])
+    ∷ read "S\ta\tA\tRC:i:xyz" ("a" ∷ "A" ∷ "RC:i:xyz" ∷ [])
     -- links
     ∷ both "L\t11\t+\t12\t-\t4M"
     ∷ both "L\t1\t+\t1\t+\t*\tMQ:i:40"
-    ∷ says "L\t11\t+\t12\t-\t4M" ("11" ∷ "+" ∷ "12" ∷ "-" ∷ [])
+    ∷ says "L\t11\t+\t12\t-\t4M" ("11" ∷ "+" ∷ "12" ∷ "-" ∷ "4M" ∷ [])
+    ∷ read "L\t1\t+\t1\t-\t*\tMQ:i:40\tid:Z:e" ("1" ∷ "+" ∷ "1" ∷ "-" ∷ "*" ∷ "MQ:i:40" ∷ "id:Z:e" ∷ [])
     ∷ comma "L\t1\t+\t2,\t-\t*"
     ∷ broken 3 "L\t1\t\t2\t-\t4M"
     ∷ broken 3 "L\t1\tx\t2\t-\t4M"

@@ -251,10 +251,10 @@ pub record Visit : Type 0 where
   pub name : List ℕ
   pub orientation : ℕ
 
--- What a line states. The tags of S and L lines are left to the line.
+-- What a line states: all its columns, tags as they stand.
 pub data Record : Type 0 where
-  segment : (name sequence : List ℕ) → Record
-  link : (from : List ℕ) (fromOrientation : ℕ) (to : List ℕ) (toOrientation : ℕ) → Record
+  segment : (name sequence : List ℕ) (tags : List (List ℕ)) → Record
+  link : (from : List ℕ) (fromOrientation : ℕ) (to : List ℕ) (toOrientation : ℕ) (overlap : List ℕ) (tags : List (List ℕ)) → Record
   path : (name : List ℕ) (visits : List Visit) (overlaps : List ℕ) (tags : List (List ℕ)) → Record
   walk : (sample haplotype sequence start end steps : List ℕ) (visits : List Visit) (tags : List (List ℕ)) → Record
 
@@ -269,8 +269,8 @@ walkVisit (b ∷ name) = record { name = name; orientation = cond (eqb b 62) 43 
 
 -- the record of the columns of a line
 unfoldable pub recordOf : Sort → List (List ℕ) → Record
-recordOf S cs = segment (column 2 cs) (column 3 cs)
-recordOf L cs = link (column 2 cs) (lastByte (column 3 cs)) (column 4 cs) (lastByte (column 5 cs))
+recordOf S cs = segment (column 2 cs) (column 3 cs) (drop 3 cs)
+recordOf L cs = link (column 2 cs) (lastByte (column 3 cs)) (column 4 cs) (lastByte (column 5 cs)) (column 6 cs) (drop 6 cs)
 recordOf P cs = path (column 2 cs) (map itemVisit (items (column 3 cs))) (column 4 cs) (drop 4 cs)
 recordOf W cs =
     walk (column 2 cs) (column 3 cs) (column 4 cs) (column 5 cs) (column 6 cs) (column 7 cs)
@@ -288,8 +288,8 @@ lacksComma name = all (λ b. not (eqb b 44)) name
 
 -- no segment name of the record holds a comma
 unfoldable pub noCommaIn : Record → Bool
-noCommaIn (segment name sequence) = lacksComma name
-noCommaIn (link from fromOrientation to toOrientation) = lacksComma from && lacksComma to
+noCommaIn (segment name sequence tags) = lacksComma name
+noCommaIn (link from fromOrientation to toOrientation overlap tags) = lacksComma from && lacksComma to
 noCommaIn (path name visits overlaps tags) = all (λ v. lacksComma (v .name)) visits
 noCommaIn (walk sample haplotype sequence start end steps visits tags) = all (λ v. lacksComma (v .name)) visits
 

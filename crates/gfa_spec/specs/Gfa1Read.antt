@@ -7,7 +7,7 @@ use mathlib.Core.Path.{_≡_}
 use lib.ListN.{drop}
 use Rattle.gfa_spec.specs.Bytes.{same, any, Part}
 use Rattle.gfa_spec.specs.Reading.{Step, Kind, Entry, header, comment, blank, other, segment, link, path, Read, refused, accepted}
-use Rattle.gfa_spec.specs.Gfa1.{column, Visit, Record, states, conforms}
+use Rattle.gfa_spec.specs.Gfa1.{columns, column, Visit, Record, states, conforms}
 
 -- ---- a line
 
@@ -20,21 +20,22 @@ unfoldable pub pathRecord : Kind → List (List ℕ) → List Visit → Record
 pathRecord Kind.P cs visits = Record.path (column 2 cs) visits (column 4 cs) (drop 4 cs)
 pathRecord Kind.W cs visits = Record.walk (column 2 cs) (column 3 cs) (column 4 cs) (column 5 cs) (column 6 cs) (column 7 cs) visits (drop 7 cs)
 
--- the record that an entry states, none for a raw line
+-- the record that an entry states, none for a raw line; what a segment and a link do not name is read of the line that they keep
 unfoldable pub stated : Entry → Option Record
 stated (header l) = none
 stated (comment l) = none
 stated (blank l) = none
 stated (other l) = none
-stated (segment s) = some (Record.segment (s .id) (s .sequence))
-stated (link l) = some (Record.link (l .from) (l .fromOrientation) (l .to) (l .toOrientation))
+stated (segment s) = some (Record.segment (s .id) (s .sequence) (drop 3 (columns (s .line))))
+stated (link l) =
+    some (Record.link (l .from) (l .fromOrientation) (l .to) (l .toOrientation) (column 6 (columns (l .line))) (drop 6 (columns (l .line))))
 stated (path p) = some (pathRecord (p .kind) (p .fields) (map visitOf (p .steps)))
 
 -- the name of a segment
 unfoldable pub nameIn : Option Record → List (List ℕ)
 nameIn none = []
-nameIn (some (Record.segment name sequence)) = name ∷ []
-nameIn (some (Record.link from fromOrientation to toOrientation)) = []
+nameIn (some (Record.segment name sequence tags)) = name ∷ []
+nameIn (some (Record.link from fromOrientation to toOrientation overlap tags)) = []
 nameIn (some (Record.path name visits overlaps tags)) = []
 nameIn (some (Record.walk sample haplotype sequence start end steps visits tags)) = []
 
