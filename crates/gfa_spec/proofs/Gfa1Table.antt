@@ -8,6 +8,8 @@ use lib.Dec.{T, eqb}
 use Rattle.gfa_spec.specs.Bytes.{bytes, same, all, join}
 use Rattle.gfa_spec.specs.Reading.{segment, link, path, Read, refused, accepted, walk, parseLine, mapRead}
 use Rattle.gfa_spec.specs.Reading as reading
+use Rattle.gfa_spec.specs.Calls.{Outcome, answer}
+use Rattle.gfa_spec.specs.Services.{spellPath}
 use Rattle.gfa_spec.specs.Gfa1.{inClass, matches, isName, isSign, endsItem, holdsEnd, isSegmentName, isSequence, isOrientation, isIndex, isPosition, isCigar, isOverlap, isCharacter, afterSign, isInteger, areDigits, areScaled, isFloat, isPrinted, isHex, areNumbers, isArray, isTyped, isTag, areOverlaps, items, isItem, areItems, startsStep, walkSteps, isWalkStep, isWalk, columns, column, sortOf, lineSort, expressions, begins, fits, allowsUntagged, allows, allows10, brokenFrom, firstBroken, Visit, Record, itemVisit, walkVisit, recordOf, states, lacksComma, noCommaIn, noComma}
 use Rattle.gfa_spec.specs.Gfa1Read.{visitOf, pathRecord, stated}
 use Rattle.gfa_spec.proofs.Computing.{computing}
@@ -84,6 +86,15 @@ read l texts = readsTexts (map bytes texts) (reading-of l)
 stops : ℕ → String → Bool
 stops k l = refusesAs k (reading-of l)
 
+-- is the answer these bytes?
+answers : List ℕ → Outcome → Bool
+answers bs (Outcome.refusal r) = false
+answers bs (answer out) = same out bs
+
+-- the bytes that path 0 of a text spells
+spells : String → String → Bool
+spells text bs = answers (bytes bs) (spellPath (bytes text) 0 65536 1024)
+
 -- ---- the rows
 
 -- Lines by sorts.
@@ -96,6 +107,7 @@ table =
     ∷ says "S\t1\tACGT\tRC:i:1232\tab:Z:a b" ("1" ∷ "ACGT" ∷ "RC:i:1232" ∷ "ab:Z:a b" ∷ [])
     ∷ both "S\tA+B\tac=.N"
     ∷ both "S\ta*=\t*"
+    ∷ comma "S\t,a\tA"
     ∷ comma "S\tA,B\t*"
     ∷ says "S\tA,B\t*" ("A,B" ∷ "*" ∷ [])
     ∷ broken 2 "S\tA+,B\t*"
@@ -155,9 +167,10 @@ table =
     ∷ comma "P\tp\ta,b+,c-\t*"
     ∷ says "P\tp\ta,b+,c-\t*" ("p" ∷ "a,b" ∷ "+" ∷ "c" ∷ "-" ∷ "*" ∷ [])
     ∷ stops 13 "P\tp\ta,b+,c-\t*"
-    ∷ comma "P\tp\t,1+\t*"
-    ∷ says "P\tp\t,1+\t*" ("p" ∷ ",1" ∷ "+" ∷ "*" ∷ [])
-    ∷ read "P\tp\t,1+\t*" ("p" ∷ "1" ∷ "+" ∷ "*" ∷ [])
+    ∷ comma "P\tp\t,a+\t*"
+    ∷ says "P\tp\t,a+\t*" ("p" ∷ ",a" ∷ "+" ∷ "*" ∷ [])
+    ∷ read "P\tp\t,a+\t*" ("p" ∷ "a" ∷ "+" ∷ "*" ∷ [])
+    ∷ spells "S\t,a\tA\nS\ta\tC\nP\tp\t,a+\t*\n" "C"
     ∷ broken 2 "P\t*\t1+\t*"
     ∷ broken 3 "P\tp\t\t*"
     ∷ broken 3 "P\tp\t*\t*"
@@ -193,5 +206,5 @@ table =
 
 -- Every row holds.
 pub table-holds : T (all (λ b. b) table)
-unfolding table both newer comma broken says read stops reading-of readsTexts refusesAs visitTexts recordTexts sameAll sameNumber inClass matches isName isSign endsItem holdsEnd isSegmentName isSequence isOrientation isIndex isPosition isCigar isOverlap isCharacter afterSign isInteger areDigits areScaled isFloat isPrinted isHex areNumbers isArray isTyped isTag areOverlaps items isItem areItems startsStep walkSteps isWalkStep isWalk columns column sortOf lineSort expressions begins fits Option·elim allowsUntagged allows allows10 brokenFrom firstBroken itemVisit walkVisit recordOf states lacksComma noCommaIn noComma visitOf pathRecord stated computing
+unfolding table both newer comma broken says read stops answers spells reading-of readsTexts refusesAs visitTexts recordTexts sameAll sameNumber inClass matches isName isSign endsItem holdsEnd isSegmentName isSequence isOrientation isIndex isPosition isCigar isOverlap isCharacter afterSign isInteger areDigits areScaled isFloat isPrinted isHex areNumbers isArray isTyped isTag areOverlaps items isItem areItems startsStep walkSteps isWalkStep isWalk columns column sortOf lineSort expressions begins fits Option·elim allowsUntagged allows allows10 brokenFrom firstBroken itemVisit walkVisit recordOf states lacksComma noCommaIn noComma visitOf pathRecord stated computing
 table-holds = tt

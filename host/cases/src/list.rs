@@ -378,6 +378,7 @@ fn step_lists(list: &mut List) {
         &[0, 1],
         "S a,b AC\nP p a,b+\nW s 0 w 0 4 >a,b\n",
     );
+    list.spell("comma before a name", &[0], "S ,a A\nS a C\nP p ,a+ *\n");
     list.spell(
         "comma splits into steps",
         &[0],
