@@ -124,7 +124,7 @@ parseItems (item ∷ items) =
     cond (isEmpty (item .bytes)) (parseItems items)
     (cond (isStep (item .bytes)) (then (parseItems items) (λ steps. accepted (stepOf item ∷ steps))) (refused 13))
 
--- the steps of a P field: `*` or empty means none; items stand between commas (44)
+-- the steps of a P field: `*` means none; else items stand between commas (44), and a field with none but empty items, as the empty field, means none
 unfoldable pub parsePSteps : Part → Read (List Step)
 parsePSteps f = cond (same (f .bytes) star) (accepted []) (parseItems (split 44 (f .at) (f .bytes)))
 
