@@ -28,4 +28,5 @@ pub mod Gfa1Steps
 pub mod Gfa1Cuts
 pub mod Gfa1
 pub mod Gfa1Text
+pub mod Gfa1Tags
 pub mod Gfa1Table

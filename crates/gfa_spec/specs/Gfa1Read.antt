@@ -2,7 +2,7 @@
 use Prim.Native.Nat.{ℕ}
 use mathlib.Core.Bool.{Bool, true, cond, not, _&&_}
 use mathlib.Core.List.{List, [], _∷_, _++_, map}
-use mathlib.Core.Option.{Option, none, some}
+use mathlib.Core.Option.{Option, none, some, Option·elim}
 use mathlib.Core.Path.{_≡_}
 use lib.ListN.{drop}
 use Rattle.gfa_spec.specs.Bytes.{same, any, Part}
@@ -30,6 +30,17 @@ stated (segment s) = some (Record.segment (s .id) (s .sequence) (drop 3 (columns
 stated (link l) =
     some (Record.link (l .from) (l .fromOrientation) (l .to) (l .toOrientation) (column 6 (columns (l .line))) (drop 6 (columns (l .line))))
 stated (path p) = some (pathRecord (p .kind) (p .fields) (map visitOf (p .steps)))
+
+-- a record without its tags
+unfoldable pub untagged : Record → Record
+untagged (Record.segment name sequence tags) = Record.segment name sequence []
+untagged (Record.link from fromOrientation to toOrientation overlap tags) = Record.link from fromOrientation to toOrientation overlap []
+untagged (Record.path name visits overlaps tags) = Record.path name visits overlaps []
+untagged (Record.walk sample haplotype sequence start end steps visits tags) = Record.walk sample haplotype sequence start end steps visits []
+
+-- the record that an entry states, without its tags
+unfoldable pub statedUntagged : Entry → Option Record
+statedUntagged e = Option·elim (stated e) none (λ r. some (untagged r))
 
 -- the name of a segment
 unfoldable pub nameIn : Option Record → List (List ℕ)
