@@ -44,7 +44,7 @@ recordTexts (some (Record.link from fromOrientation to toOrientation overlap tag
     from ∷ (fromOrientation ∷ []) ∷ to ∷ (toOrientation ∷ []) ∷ overlap ∷ tags
 recordTexts (some (Record.path name visits overlaps tags)) = name ∷ (join (map visitTexts visits) ++ (overlaps ∷ tags))
 recordTexts (some (Record.walk sample haplotype sequence start end steps visits tags)) =
-    sample ∷ haplotype ∷ sequence ∷ start ∷ end ∷ (join (map visitTexts visits) ++ tags)
+    sample ∷ haplotype ∷ sequence ∷ start ∷ end ∷ steps ∷ (join (map visitTexts visits) ++ tags)
 
 sameAll : List (List ℕ) → List (List ℕ) → Bool
 sameAll [] [] = true
@@ -164,7 +164,7 @@ def record(line):
         visits = [(item[:-1], item[-1]) for item in items(c[2])]
         return [name for name, _ in visits], [c[1]] + [x for v in visits for x in v] + c[3:]
     visits = [(step[1:], "+" if step[0] == ">" else "-") for step in re.findall(r"[><][^><]+", c[6])]
-    return [name for name, _ in visits], c[1:6] + [x for v in visits for x in v] + c[7:]
+    return [name for name, _ in visits], c[1:7] + [x for v in visits for x in v] + c[7:]
 
 
 # ---- the lines

@@ -28,7 +28,7 @@ recordTexts (some (Record.link from fromOrientation to toOrientation overlap tag
     from ∷ (fromOrientation ∷ []) ∷ to ∷ (toOrientation ∷ []) ∷ overlap ∷ tags
 recordTexts (some (Record.path name visits overlaps tags)) = name ∷ (join (map visitTexts visits) ++ (overlaps ∷ tags))
 recordTexts (some (Record.walk sample haplotype sequence start end steps visits tags)) =
-    sample ∷ haplotype ∷ sequence ∷ start ∷ end ∷ (join (map visitTexts visits) ++ tags)
+    sample ∷ haplotype ∷ sequence ∷ start ∷ end ∷ steps ∷ (join (map visitTexts visits) ++ tags)
 
 -- equality of lists of texts
 sameAll : List (List ℕ) → List (List ℕ) → Bool
@@ -186,7 +186,7 @@ table =
     ∷ newer "W\tNA12878\t1\tchr1\t0\t11\t>s11<s12>s13"
     ∷ newer "W\ts\t0\tc\t*\t*\t>1\txx:Z:y"
     ∷ newer "W\ts\t0\tc\t*\t*\t>*<=+"
-    ∷ says "W\ts\t0\tc\t*\t7\t>a<b" ("s" ∷ "0" ∷ "c" ∷ "*" ∷ "7" ∷ "a" ∷ "+" ∷ "b" ∷ "-" ∷ [])
+    ∷ says "W\ts\t0\tc\t*\t7\t>a<b" ("s" ∷ "0" ∷ "c" ∷ "*" ∷ "7" ∷ ">a<b" ∷ "a" ∷ "+" ∷ "b" ∷ "-" ∷ [])
     ∷ comma "W\ts\t0\tc\t*\t*\t>a,b"
     ∷ broken 3 "W\ts\t*\tc\t*\t*\t>1"
     ∷ broken 5 "W\ts\t0\tc\t-1\t*\t>1"

@@ -20,7 +20,7 @@ inClass (x ∷ (y ∷ [])) b = eqb b x || eqb b y
 inClass (x ∷ (y ∷ (z ∷ more))) b =
     cond (eqb y 45) (leb x b && leb b z || inClass more b) (eqb b x || inClass (y ∷ (z ∷ more)) b)
 
--- a byte of each class in turn, and then any number of bytes of the class c: `[d1][d2]..[c]*`
+-- a byte of each class in turn, and then any number of bytes of the class c, none where it is empty: `[d1][d2]..[c]*`
 unfoldable pub matches : List String → String → List ℕ → Bool
 matches [] c bs = all (inClass (bytes c)) bs
 matches (d ∷ ds) c [] = false
