@@ -28,14 +28,14 @@ unfolding field column nth nowhere bytesOf
 field-column k fs = sym (nth-map bytesOf k fs nowhere)
 
 -- a line that begins as it must has all required columns
-begins-length : (es : List (List ℕ → Bool)) (cs : List (List ℕ)) → begins es cs ≡ true → length es ≤ length cs
+pub begins-length : (es : List (List ℕ → Bool)) (cs : List (List ℕ)) → begins es cs ≡ true → length es ≤ length cs
 unfolding begins
 begins-length [] cs h = omega arith
 begins-length (e ∷ es) [] h = absurd (false≢true h)
 begins-length (e ∷ es) (c ∷ cs) h = omega (arith, begins-length es cs (and-eq-true-iff (e c) (begins es cs) .0 h .1))
 
 -- and each matches its expression
-begins-at : (k : ℕ) (es : List (List ℕ → Bool)) (cs : List (List ℕ)) → k < length es → begins es cs ≡ true → nth k es isName (nth k cs []) ≡ true
+pub begins-at : (k : ℕ) (es : List (List ℕ → Bool)) (cs : List (List ℕ)) → k < length es → begins es cs ≡ true → nth k es isName (nth k cs []) ≡ true
 unfolding begins nth
 begins-at k [] cs l h = absurd (omega arith)
 begins-at k (e ∷ es) [] l h = absurd (false≢true h)
@@ -113,7 +113,7 @@ w-reads ids f fs h =
 -- ---- the sorts
 
 -- the letter of a sort
-unfoldable letterOf : Sort → List ℕ
+unfoldable pub letterOf : Sort → List ℕ
 letterOf S = bytes "S"
 letterOf L = bytes "L"
 letterOf P = bytes "P"
@@ -124,7 +124,7 @@ same-letter : (f : List ℕ) (s t : Sort) → same f (letterOf s) ≡ true → s
 same-letter f s t h e = let k : s ≡ t = cc in same-equal f (letterOf s) h ∙ ap letterOf k
 
 -- only its letter names a sort
-sort-letter : (f : List ℕ) (s : Sort) → sortOf f ≡ some s → f ≡ letterOf s
+pub sort-letter : (f : List ℕ) (s : Sort) → sortOf f ≡ some s → f ≡ letterOf s
 unfolding sortOf letterOf
 sort-letter f s h =
     by-test (same f (bytes "S")) (λ e. same-letter f S s e (rw e at h)) λ e.
@@ -149,7 +149,7 @@ sort-parse P ids line fs e = rw e
 sort-parse W ids line fs e = rw e
 
 -- every sort has required columns
-begins-none : (s : Sort) → begins (expressions s) [] ≡ false
+pub begins-none : (s : Sort) → begins (expressions s) [] ≡ false
 unfolding begins expressions
 begins-none S = refl
 begins-none L = refl
@@ -224,13 +224,18 @@ none-allows : (line : List ℕ) → lineSort line ≡ none → allowsUntagged li
 unfolding allowsUntagged Option·elim
 none-allows line e = rw e
 
+-- and states nothing
+pub none-states : (line : List ℕ) → lineSort line ≡ none → states line ≡ none
+unfolding states Option·elim
+none-states line e = rw e
+
 -- a line of a sort that is allowed begins as it must
-allows-begins : (s : Sort) (line : List ℕ) → lineSort line ≡ some s → allowsUntagged line ≡ true → begins (expressions s) (tail (columns line)) ≡ true
+pub allows-begins : (s : Sort) (line : List ℕ) → lineSort line ≡ some s → allowsUntagged line ≡ true → begins (expressions s) (tail (columns line)) ≡ true
 unfolding allowsUntagged Option·elim
 allows-begins s line e h = rw e at h
 
 -- and states the record of its columns
-sort-states : (s : Sort) (line : List ℕ) → lineSort line ≡ some s → allowsUntagged line ≡ true → states line ≡ some (recordOf s (columns line))
+pub sort-states : (s : Sort) (line : List ℕ) → lineSort line ≡ some s → allowsUntagged line ≡ true → states line ≡ some (recordOf s (columns line))
 unfolding states Option·elim
 sort-states s line e h = rw (e, h)
 

@@ -12,7 +12,7 @@ use Rattle.gfa_spec.specs.Calls.{badByte, entries, input}
 use Rattle.gfa_spec.specs.Gfa1.{Sort, S, L, P, W, sortOf, lineSort, allowsUntagged, Visit, states, noComma, conforms}
 use Rattle.gfa_spec.specs.Gfa1Read.{visitOf, pathRecord, stated, nameIn, known, expected, Agree, fresh}
 use Rattle.gfa_spec.proofs.Tests.{by-test, both}
-use Rattle.gfa_spec.proofs.Gfa1.{field-column, fields-columns, reads}
+use Rattle.gfa_spec.proofs.Gfa1.{field-column, fields-columns, none-states, reads}
 use Rattle.gfa_spec.proofs.Texts.{Reads, parse-reads}
 use Rattle.gfa_spec.proofs.Admission.{entries-input}
 use Rattle.gfa_spec.proofs.Answers.{mapRead-accepted}
@@ -41,11 +41,6 @@ none-reads ids line h =
     by-test (isEmpty (line .bytes)) (λ e. rw e) λ e.
     by-test (startsComment (line .bytes)) (λ d. rw (e, d)) λ d.
     rw (e, d) (none-fields ids line (fields line) (rw (field-column 0 (fields line), fields-columns line) h))
-
--- and it states none
-none-states : (line : List ℕ) → lineSort line ≡ none → states line ≡ none
-unfolding states Option·elim
-none-states line e = rw e
 
 -- a line of a sort conforms where it is allowed, no segment name holding a comma
 sort-conforms : (s : Sort) (line : List ℕ) → lineSort line ≡ some s → conforms line ≡ (allowsUntagged line && noComma line)

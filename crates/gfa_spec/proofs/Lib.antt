@@ -27,6 +27,7 @@ pub mod Answered
 pub mod Gfa1Steps
 pub mod Gfa1Cuts
 pub mod Gfa1
+pub mod Gfa1Columns
 pub mod Gfa1Text
 pub mod Gfa1Tags
 pub mod Gfa1Table

@@ -4,11 +4,11 @@
 use Prim.Native.Nat.{ℕ, suc}
 use Prim.Native.String.{String}
 use mathlib.Core.Bool.{Bool, true, false, cond, not, _&&_, _||_}
-use mathlib.Core.List.{List, [], _∷_, map, tail, dropLast}
+use mathlib.Core.List.{List, [], _∷_, _++_, map, tail, dropLast}
 use mathlib.Core.Option.{Option, none, some, Option·elim}
 use lib.Dec.{eqb, leb}
 use lib.ListN.{length, take, drop}
-use Rattle.gfa_spec.specs.Bytes.{bytes, same, star, isEmpty, all, nth, lastByte, prepend, between}
+use Rattle.gfa_spec.specs.Bytes.{bytes, same, star, isEmpty, all, nth, lastByte, joinWith, prepend, between}
 
 -- ---- classes of bytes
 
@@ -279,6 +279,19 @@ recordOf W cs =
 -- the record that a line states, if its required columns match; its tags are taken as they stand
 unfoldable pub states : List ℕ → Option Record
 states line = Option·elim (lineSort line) none (λ s. cond (allowsUntagged line) (some (recordOf s (columns line))) none)
+
+-- the item of a visit, such as `a+`
+unfoldable pub itemOf : Visit → List ℕ
+itemOf v = v .name ++ (v .orientation ∷ [])
+
+-- the columns of the line that states a record
+unfoldable pub columnsOf : Record → List (List ℕ)
+columnsOf (segment name sequence tags) = bytes "S" ∷ name ∷ sequence ∷ tags
+columnsOf (link from fromOrientation to toOrientation overlap tags) =
+    bytes "L" ∷ from ∷ (fromOrientation ∷ []) ∷ to ∷ (toOrientation ∷ []) ∷ overlap ∷ tags
+columnsOf (path name visits overlaps tags) = bytes "P" ∷ name ∷ joinWith 44 (map itemOf visits) ∷ overlaps ∷ tags
+columnsOf (walk sample haplotype sequence start end steps visits tags) =
+    bytes "W" ∷ sample ∷ haplotype ∷ sequence ∷ start ∷ end ∷ steps ∷ tags
 
 -- ---- commas: the specification allows them inside segment names, and the Rust splits a P list at every comma
 
