@@ -23,6 +23,7 @@ pub mod Refusals
 pub mod BadSteps
 pub mod Known
 pub mod Admission
+pub mod ConditionsLine
 pub mod Answered
 pub mod Gfa1Steps
 pub mod Gfa1Cuts

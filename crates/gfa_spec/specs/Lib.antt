@@ -8,5 +8,6 @@ pub mod Spelling
 pub mod Runs
 pub mod Calls
 pub mod Services
+pub mod Conditions
 pub mod Gfa1
 pub mod Gfa1Read

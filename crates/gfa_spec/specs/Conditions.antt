@@ -1,0 +1,63 @@
+-- When a line is refused, in the words of the table of document 01, "Refused calls". That the reader refuses exactly so is proved in proofs/ConditionsLine.
+use Prim.Native.Nat.{ℕ, _≤_, _<_}
+use mathlib.Core.Bool.{Bool, true, false, not, _&&_, _||_}
+use mathlib.Core.List.{List, [], _∷_}
+use mathlib.Core.Path.{_≡_}
+use lib.ListN.{length}
+use Rattle.gfa_spec.specs.Bytes.{same, star, isEmpty, any, Part, between, lastByte}
+use Rattle.gfa_spec.specs.Reading.{field, isOrientation, isStep, isMark}
+
+-- ---- a line
+
+-- is the field a single + or -?
+unfoldable pub isSingle : List ℕ → Bool
+isSingle [] = false
+isSingle (b ∷ []) = isOrientation b
+isSingle (b ∷ (c ∷ bs)) = false
+
+-- does the field mean no steps? it is `*` or empty
+unfoldable pub isNone : List ℕ → Bool
+isNone s = same s star || isEmpty s
+
+-- is the item of a P list malformed? it is not empty, and its last byte is no orientation or the name before it is empty
+unfoldable pub isMalformed : List ℕ → Bool
+isMalformed item = not (isEmpty item) && not (isStep item)
+
+-- has the walk an empty step before its last? a mark stands at once behind a mark
+unfoldable pub hasEmptyStep : List ℕ → Bool
+hasEmptyStep [] = false
+hasEmptyStep (b ∷ []) = false
+hasEmptyStep (b ∷ (c ∷ bs)) = (isMark b && isMark c) || hasEmptyStep (c ∷ bs)
+
+-- Why a line with these fields is refused, behind segments with the given IDs: a case for each of 5 to 17, which shuts out the earlier
+-- cases of its line. An S, L, P or W line has exactly S (83), L (76), P (80) or W (87) as its first field.
+pub data LineRefuses (ids : List (List ℕ)) (fs : List Part) : ℕ → Type 0 where
+  -- 5: S line with fewer than 3 fields
+  short-s : field 0 fs ≡ 83 ∷ [] → length fs < 3 → LineRefuses ids fs 5
+  -- 6: segment ID already read
+  id-read : field 0 fs ≡ 83 ∷ [] → 3 ≤ length fs → any (same (field 1 fs)) ids ≡ true → LineRefuses ids fs 6
+  -- 7: L line with fewer than 6 fields
+  short-l : field 0 fs ≡ 76 ∷ [] → length fs < 6 → LineRefuses ids fs 7
+  -- 8: L from-orientation empty
+  from-empty : field 0 fs ≡ 76 ∷ [] → 6 ≤ length fs → field 2 fs ≡ [] → LineRefuses ids fs 8
+  -- 9: L from-orientation not a single + or -
+  from-other : field 0 fs ≡ 76 ∷ [] → 6 ≤ length fs → isEmpty (field 2 fs) ≡ false → isSingle (field 2 fs) ≡ false → LineRefuses ids fs 9
+  -- 10: L to-orientation empty
+  to-empty : field 0 fs ≡ 76 ∷ [] → 6 ≤ length fs → isSingle (field 2 fs) ≡ true → field 4 fs ≡ [] → LineRefuses ids fs 10
+  -- 11: L to-orientation not a single + or -
+  to-other : field 0 fs ≡ 76 ∷ [] → 6 ≤ length fs → isSingle (field 2 fs) ≡ true → isEmpty (field 4 fs) ≡ false → isSingle (field 4 fs) ≡ false
+      → LineRefuses ids fs 11
+  -- 12: P line with fewer than 3 fields
+  short-p : field 0 fs ≡ 80 ∷ [] → length fs < 3 → LineRefuses ids fs 12
+  -- 13: malformed step: some item between commas (44) is malformed
+  step-malformed : field 0 fs ≡ 80 ∷ [] → 3 ≤ length fs → isNone (field 2 fs) ≡ false → any isMalformed (between 44 (field 2 fs)) ≡ true → LineRefuses ids fs 13
+  -- 14: W line with fewer than 7 fields
+  short-w : field 0 fs ≡ 87 ∷ [] → length fs < 7 → LineRefuses ids fs 14
+  -- 15: W walk with an empty step
+  step-empty : field 0 fs ≡ 87 ∷ [] → 7 ≤ length fs → isNone (field 6 fs) ≡ false → hasEmptyStep (field 6 fs) ≡ true → LineRefuses ids fs 15
+  -- 16: with no oriented step: it has no mark
+  no-step : field 0 fs ≡ 87 ∷ [] → 7 ≤ length fs → isNone (field 6 fs) ≡ false → hasEmptyStep (field 6 fs) ≡ false → any isMark (field 6 fs) ≡ false
+      → LineRefuses ids fs 16
+  -- 17: with an empty last step: its last byte is a mark
+  last-empty : field 0 fs ≡ 87 ∷ [] → 7 ≤ length fs → isNone (field 6 fs) ≡ false → hasEmptyStep (field 6 fs) ≡ false → any isMark (field 6 fs) ≡ true
+      → isMark (lastByte (field 6 fs)) ≡ true → LineRefuses ids fs 17
