@@ -24,6 +24,7 @@ pub mod BadSteps
 pub mod Known
 pub mod Admission
 pub mod ConditionsLine
+pub mod Conditions
 pub mod Answered
 pub mod Gfa1Steps
 pub mod Gfa1Cuts

@@ -1,11 +1,12 @@
--- When a line is refused, in the words of the table of document 01, "Refused calls". That the reader refuses exactly so is proved in proofs/ConditionsLine.
-use Prim.Native.Nat.{ℕ, _≤_, _<_}
+-- When a text is refused, in the words of the table of document 01, "Refused calls". That it is refused exactly so: proofs/ConditionsLine, proofs/Conditions.
+use Prim.Native.Nat.{ℕ, suc, _≤_, _<_}
 use mathlib.Core.Bool.{Bool, true, false, not, _&&_, _||_}
-use mathlib.Core.List.{List, [], _∷_}
+use mathlib.Core.List.{List, [], _∷_, _++_, map}
 use mathlib.Core.Path.{_≡_}
 use lib.ListN.{length}
-use Rattle.gfa_spec.specs.Bytes.{same, star, isEmpty, any, Part, between, lastByte}
-use Rattle.gfa_spec.specs.Reading.{field, isOrientation, isStep, isMark}
+use Rattle.gfa_spec.specs.Bytes.{same, star, isEmpty, any, Part, between, lastByte, nth}
+use Rattle.gfa_spec.specs.Reading.{fields, field, Entry, isOrientation, isStep, isMark, lines, parsed, parseLines}
+use Rattle.gfa_spec.specs.Records.{segments}
 
 -- ---- a line
 
@@ -61,3 +62,30 @@ pub data LineRefuses (ids : List (List ℕ)) (fs : List Part) : ℕ → Type 0 w
   -- 17: with an empty last step: its last byte is a mark
   last-empty : field 0 fs ≡ 87 ∷ [] → 7 ≤ length fs → isNone (field 6 fs) ≡ false → hasEmptyStep (field 6 fs) ≡ false → any isMark (field 6 fs) ≡ true
       → isMark (lastByte (field 6 fs)) ≡ true → LineRefuses ids fs 17
+
+-- ---- a text
+
+-- Why a text is refused as n at the line of this number, the first being 1: each earlier line is accepted, and this one is refused.
+pub record TextRefuses (text : List ℕ) (n number : ℕ) : Type 0 where
+  pub earlier : List Part
+  pub line : Part
+  pub later : List Part
+  pub entries : List Entry
+  pub standing : lines text ≡ earlier ++ (line ∷ later)
+  pub counted : number ≡ suc (length earlier)
+  pub reads : parseLines 1 [] earlier ≡ parsed entries
+  pub why : LineRefuses (map (λ s. s .id) (segments entries)) (fields line) n
+
+-- ---- a byte
+
+-- Why the byte at this offset is bad; behind the last byte of a text stands 0 here, which is neither bad nor a line feed.
+pub data BadAt (text : List ℕ) : ℕ → ℕ → Type 0 where
+  -- 2: a byte of 128 or more
+  high : (k : ℕ) → 128 ≤ nth k text 0 → BadAt text 2 k
+  -- 3: a carriage return (13) not followed at once by a line feed (10)
+  alone : (k : ℕ) → nth k text 0 ≡ 13 → (nth (suc k) text 0 ≡ 10 → ⊥) → BadAt text 3 k
+
+-- Why a text is refused as n from this offset: the byte there is bad, and no byte before it is.
+pub record ByteRefuses (text : List ℕ) (n from : ℕ) : Type 0 where
+  pub bad : BadAt text n from
+  pub first : (m k : ℕ) → k < from → BadAt text m k → ⊥
