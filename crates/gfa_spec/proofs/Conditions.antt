@@ -2,19 +2,20 @@
 use Prim.Native.Nat.{ℕ, zero, suc, _+_, _<_}
 use native.Mathlib.Nat.{add-zero, zero-add}
 use native.Mathlib.Omega.{arith}
-use mathlib.Core.Bool.{Bool, true, false, cond, not, _&&_}
+use mathlib.Core.Bool.{true, false, not, _&&_}
 use mathlib.Core.List.{List, [], _∷_, _++_, map, append-nil, append-assoc}
 use mathlib.Core.Option.{Option, none, some}
-use mathlib.Core.Path.{_≡_, refl, sym, ap}
-use borrow.Author.Tests.{leb-true, leb-false, le-leb, eqb-true, eqb-false, eq-eqb, ne-eqb, not-true}
+use mathlib.Core.Path.{_≡_, refl, ap}
+use borrow.Author.Tests.{leb-true, le-leb, eqb-true, eqb-false, eq-eqb, ne-eqb, not-true}
 use lib.Dec.{eqb, leb}
 use lib.ListN.{length}
 use Rattle.gfa_spec.specs.Bytes.{join, Part, nth}
 use Rattle.gfa_spec.specs.Reading.{Entry, Read, refused, accepted, lines, parseLine, Parsed, refusedAt, parsed, idOf, after, onward, parseLines, parse}
-use Rattle.gfa_spec.specs.Calls.{Refusal, atPlace, badByte}
-use Rattle.gfa_spec.specs.Conditions.{TextRefuses, BadAt, high, alone, ByteRefuses}
+use Rattle.gfa_spec.specs.Calls.{Refusal, atPlace, badByte, Input, input}
+use Rattle.gfa_spec.specs.Conditions.{TextRefuses, BadAt, high, alone, ByteRefuses, NoneBad, CallRefuses, text-long, byte-bad, work-short, line-bad}
 use Rattle.gfa_spec.proofs.Tests.{by-test, clash, refute, and-left, and-right, and-both}
 use Rattle.gfa_spec.proofs.Texts.{Reads, parse-reads, ids-segments}
+use Rattle.gfa_spec.proofs.Admission.{InputRefuses, too-long, bad-byte, little-work, bad-line, input-refused, refused-input}
 use Rattle.gfa_spec.proofs.ConditionsLine.{line-refused, refused-line}
 
 -- ---- a text
@@ -51,11 +52,16 @@ lines-refused number ids (p ∷ ps) n at e = go (parseLine ids p) refl (λ d. li
         record { earlier = []; line = p; later = ps; entries = []; standing = refl; counted = omega arith; reads = refl; refuses = rw append-nil (rw same at q) }
     go (accepted d) q more e =
         let w = more d (after-refused d (parseLines (suc number) (ids ++ idOf d) ps) n at e) in
-        record { earlier = p ∷ (w .earlier); line = w .line; later = w .later; entries = d ∷ (w .entries);
-        standing = ap (λ l. p ∷ l) (w .standing);
-        counted = omega arith;
-        reads = rw (q, w .reads);
-        refuses = rw (← append-assoc ids (idOf d) (join (map idOf (w .entries)))) (w .refuses) }
+        record {
+          earlier = p ∷ (w .earlier);
+          line = w .line;
+          later = w .later;
+          entries = d ∷ (w .entries);
+          standing = ap (λ l. p ∷ l) (w .standing);
+          counted = omega arith;
+          reads = rw (q, w .reads);
+          refuses = rw (← append-assoc ids (idOf d) (join (map idOf (w .entries)))) (w .refuses);
+        }
 
 -- lines that are read, and then one that is refused
 refused-lines : (number : ℕ) (ids : List (List ℕ)) (earlier : List Part) (es : List Entry) (line : Part) (later : List Part) (n : ℕ)
@@ -74,8 +80,16 @@ pub parse-refused : (text : List ℕ) (n at : ℕ) → parse text ≡ refusedAt 
 unfolding parse
 parse-refused text n at e =
     let w = lines-refused 1 [] (lines text) n at e in
-    record { earlier = w .earlier; line = w .line; later = w .later; entries = w .entries; standing = w .standing; counted = omega arith; reads = w .reads;
-    why = line-refused _ (w .line) n (rw ids-segments at (w .refuses)) }
+    record {
+      earlier = w .earlier;
+      line = w .line;
+      later = w .later;
+      entries = w .entries;
+      standing = w .standing;
+      counted = omega arith;
+      reads = w .reads;
+      why = line-refused _ (w .line) n (rw ids-segments at (w .refuses));
+    }
 
 -- and under its condition it is refused
 pub refused-parse : (text : List ℕ) (n at : ℕ) → TextRefuses text n at → parse text ≡ refusedAt n at
@@ -120,7 +134,7 @@ end-alone b k = alone 0 (eqb-true b 13 k) (λ z. omega arith)
 -- a byte of 128 or more at the front
 front-high : (b : ℕ) (s : List ℕ) → leb 128 b ≡ true → BadAt (b ∷ s) 2 0
 unfolding nth
-front-high b s h = high 0 (leb-true 128 b h)
+front-high b s h = let l = leb-true 128 b h in high 0 (omega arith)
 
 -- the tests of a first byte that is not bad fail
 good-first : (b c : ℕ) (s : List ℕ) → ((m : ℕ) → BadAt (b ∷ (c ∷ s)) m 0 → ⊥) → (leb 128 b ≡ false) × ((eqb b 13 && not (eqb c 10)) ≡ false)
@@ -130,7 +144,7 @@ good-first b c s f =
 -- a first byte whose tests fail is not bad
 first-good : (b c : ℕ) (s : List ℕ) (m : ℕ) → leb 128 b ≡ false → (eqb b 13 && not (eqb c 10)) ≡ false → BadAt (b ∷ (c ∷ s)) m 0 → ⊥
 unfolding nth
-first-good b c s m h k (high j l) = clash (le-leb 128 b l) h
+first-good b c s m h k (high j l) = clash (le-leb 128 b (omega arith)) h
 first-good b c s m h k (alone j e f) = clash (and-both (eqb b 13) (not (eqb c 10)) (eq-eqb b 13 e) (rw (ne-eqb c 10 f))) k
 
 -- the first bad byte, with a byte in front that is not bad
@@ -189,9 +203,9 @@ byte-refused at (b ∷ (c ∷ s)) r e =
 front-refused : (at : ℕ) (s : List ℕ) (n : ℕ) → BadAt s n 0 → badByte at s ≡ some (atPlace n at)
 unfolding badByte nth
 front-refused at [] n h = absurd (bad-none h)
-front-refused at (b ∷ []) n (high k l) = rw (le-leb 128 b l)
+front-refused at (b ∷ []) n (high k l) = rw (le-leb 128 b (omega arith))
 front-refused at (b ∷ []) n (alone k e f) = rw e
-front-refused at (b ∷ (c ∷ s)) n (high k l) = rw (le-leb 128 b l)
+front-refused at (b ∷ (c ∷ s)) n (high k l) = rw (le-leb 128 b (omega arith))
 front-refused at (b ∷ (c ∷ s)) n (alone k e f) = rw (e, ne-eqb c 10 f)
 
 -- the first bad byte is refused
@@ -212,3 +226,47 @@ bad-refused text r e = let w = byte-refused 0 text r e in (w .number, w .offset,
 -- and under its condition it is refused
 pub refused-bad : (text : List ℕ) (n from : ℕ) → ByteRefuses text n from → badByte 0 text ≡ some (atPlace n from)
 refused-bad text n from w = rw zero-add at (refused-byte 0 text n from w)
+
+-- where no byte is refused, that at the front is not bad
+front-good : (at : ℕ) (s : List ℕ) → badByte at s ≡ none → (m : ℕ) → BadAt s m 0 → ⊥
+front-good at s e m h = let z : _≡_ {A = ℕ} 0 1 = cc (front-refused at s m h) in omega arith
+
+-- nor is any other
+none-refused : (at : ℕ) (s : List ℕ) → badByte at s ≡ none → NoneBad s
+unfolding badByte
+none-refused at s e n zero h = front-good at s e n h
+none-refused at [] e n (suc k) h = bad-none h
+none-refused at (b ∷ []) e n (suc k) h = bad-none (bad-tail b [] n k h)
+none-refused at (b ∷ (c ∷ s)) e n (suc k) h =
+    let (low, joined) = good-first b c s (front-good at (b ∷ (c ∷ s)) e) in
+    none-refused (suc at) (c ∷ s) (rw (low, joined) at e) n k (bad-tail b (c ∷ s) n k h)
+
+-- and where none is bad, none is refused
+none-bad : (text : List ℕ) → NoneBad text → badByte 0 text ≡ none
+none-bad text good = go (badByte 0 text) refl
+  where
+    go : (o : Option Refusal) → badByte 0 text ≡ o → o ≡ none
+    go none e = refl
+    go (some r) e = let (n, from, is, w) = bad-refused text r e in absurd (good n from (w .bad))
+
+-- ---- a call
+
+-- a call is refused under its condition in the table only
+pub call-refused : (text : List ℕ) (work : ℕ) (r : Refusal) → input text work ≡ Input.refusal r → CallRefuses text work r
+call-refused text work r e = go r (input-refused text work r e)
+  where
+    go : (r : Refusal) → InputRefuses text work r → CallRefuses text work r
+    go r (too-long long) = text-long long
+    go r (bad-byte short b) = let (n, from, is, w) = bad-refused text r b in rw is (byte-bad n from short w)
+    go r (little-work short clean little) = work-short short (none-refused 0 text clean) little
+    go r (bad-line n line short clean enough q) = line-bad n line short (none-refused 0 text clean) enough (parse-refused text n line q)
+
+-- and under its condition it is refused
+pub refused-call : (text : List ℕ) (work : ℕ) (r : Refusal) → CallRefuses text work r → input text work ≡ Input.refusal r
+refused-call text work r h = refused-input text work (go r h)
+  where
+    go : (r : Refusal) → CallRefuses text work r → InputRefuses text work r
+    go r (text-long long) = too-long long
+    go r (byte-bad n from short w) = bad-byte short (refused-bad text n from w)
+    go r (work-short short clean little) = little-work short (none-bad text clean) little
+    go r (line-bad n number short clean enough w) = bad-line n number short (none-bad text clean) enough (refused-parse text n number w)

@@ -1,16 +1,16 @@
 -- A line is refused as n exactly under the condition of n. Assumes nothing.
 use Prim.Native.Nat.{ℕ, suc}
 use native.Mathlib.Omega.{arith}
-use mathlib.Core.Bool.{Bool, true, false, cond, not, _&&_, _||_, true≢false, false≢true}
+use mathlib.Core.Bool.{Bool, true, false, cond, not, true≢false, false≢true}
 use mathlib.Core.List.{List, [], _∷_, map}
-use mathlib.Core.Path.{_≡_, refl, sym, ap}
+use mathlib.Core.Path.{_≡_, refl, sym}
 use borrow.Author.Tests.{ltb-true, ltb-false, lt-ltb, le-ltb, not-true, eqb-true}
 use lib.Dec.{eqb, ltb}
 use lib.ListN.{length}
 use Rattle.gfa_spec.specs.Bytes.{same, star, isEmpty, any, Part, bytesOf, longer, split, between, lastByte, nth}
-use Rattle.gfa_spec.specs.Reading.{fields, nowhere, field, Step, Entry, Read, refused, accepted, then, isOrientation, isStep, stepOf, parseItems, parsePSteps, isMark, Walk, walk, nonEmpty, parseWSteps, parseOrientation, parseS, parseL, parseP, parseW, parseFields, startsComment, parseLine}
+use Rattle.gfa_spec.specs.Reading.{fields, nowhere, field, Step, Entry, Read, refused, accepted, then, isOrientation, isStep, parseItems, parsePSteps, isMark, walk, nonEmpty, parseWSteps, parseOrientation, parseS, parseL, parseP, parseW, parseFields, startsComment, parseLine}
 use Rattle.gfa_spec.specs.Conditions.{isSingle, isNone, isMalformed, hasEmptyStep, LineRefuses, short-s, id-read, short-l, from-empty, from-other, to-empty, to-other, short-p, step-malformed, short-w, step-empty, no-step, last-empty}
-use Rattle.gfa_spec.proofs.Tests.{by-test, clash, or-left, or-right, same-equal}
+use Rattle.gfa_spec.proofs.Tests.{by-test, or-left, or-right, same-equal}
 use Rattle.gfa_spec.proofs.Answers.{not-accepted}
 use Rattle.gfa_spec.proofs.Splitting.{split-between}
 use Rattle.gfa_spec.proofs.Steps.{walk-ind}
@@ -251,7 +251,7 @@ module _ (ids : List (List ℕ)) (fs : List Part) (n : ℕ) where
   unfolding parseW field
   w-refused letter e =
       by-test (ltb (length fs) 7)
-      (λ short. given (short-w letter (ltb-true (length fs) 7 short)) (rw short at e))
+      (λ short. given (short-w letter (omega (arith, ltb-true (length fs) 7 short))) (rw short at e))
       (λ short. then-refused (parseWSteps (nth 6 fs nowhere)) _ n
       (λ r. walk-refused (walk (nth 6 fs nowhere .at) (nth 6 fs nowhere .bytes) .steps) letter short (rw wsteps-says at r))
       (λ steps a. never) (rw short at e))
@@ -301,10 +301,14 @@ refused-fields ids p fs n (to-other letter long from h k) =
     rw (letter, le-ltb (length fs) 6 long, single-accepted 8 (field 2 fs) from .1, other-refused 10 (field 4 fs) h k)
 refused-fields ids p fs n (short-p letter short) = rw (letter, lt-ltb (length fs) 3 short)
 refused-fields ids p fs n (step-malformed letter long some bad) = rw (letter, le-ltb (length fs) 3 long, list-refused fs some bad)
-refused-fields ids p fs n (short-w letter short) = rw (letter, lt-ltb (length fs) 7 short)
+refused-fields ids p fs n (short-w letter short) = rw (letter, lt-ltb (length fs) 7 (omega arith))
 refused-fields ids p fs n (step-empty letter long some h) = rw (letter, le-ltb (length fs) 7 long, walk-read fs, some, h)
 refused-fields ids p fs n (no-step letter long some full h) = rw (letter, le-ltb (length fs) 7 long, walk-read fs, some, full, h)
 refused-fields ids p fs n (last-empty letter long some full marked h) = rw (letter, le-ltb (length fs) 7 long, walk-read fs, some, full, marked, h)
+
+-- at most one condition holds of a line
+pub one-condition : (ids : List (List ℕ)) (fs : List Part) (m n : ℕ) → LineRefuses ids fs m → LineRefuses ids fs n → m ≡ n
+one-condition ids fs m n h k = cc (refused-fields ids nowhere fs m h, refused-fields ids nowhere fs n k)
 
 -- a line whose fields are refused is neither blank nor a comment: its first field is a letter
 refused-lettered : (ids : List (List ℕ)) (p : Part) (n at : ℕ) (s : List ℕ) → parseFields ids p (split 9 at s) ≡ refused n → (isEmpty s ≡ false) × (startsComment s ≡ false)

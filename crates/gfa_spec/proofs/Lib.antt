@@ -25,6 +25,7 @@ pub mod Known
 pub mod Admission
 pub mod ConditionsLine
 pub mod Conditions
+pub mod ConditionsTable
 pub mod Answered
 pub mod Gfa1Steps
 pub mod Gfa1Cuts

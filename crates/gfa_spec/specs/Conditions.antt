@@ -1,5 +1,5 @@
 -- When a text is refused, in the words of the table of document 01, "Refused calls". That it is refused exactly so: proofs/ConditionsLine, proofs/Conditions.
-use Prim.Native.Nat.{ℕ, suc, _≤_, _<_}
+use Prim.Native.Nat.{ℕ, suc, _+_, _*_, _≤_, _<_}
 use mathlib.Core.Bool.{Bool, true, false, not, _&&_, _||_}
 use mathlib.Core.List.{List, [], _∷_, _++_, map}
 use mathlib.Core.Path.{_≡_}
@@ -7,6 +7,7 @@ use lib.ListN.{length}
 use Rattle.gfa_spec.specs.Bytes.{same, star, isEmpty, any, Part, between, lastByte, nth}
 use Rattle.gfa_spec.specs.Reading.{fields, field, Entry, isOrientation, isStep, isMark, lines, parsed, parseLines}
 use Rattle.gfa_spec.specs.Records.{segments}
+use Rattle.gfa_spec.specs.Calls.{Refusal, plainly, onLine, atPlace}
 
 -- ---- a line
 
@@ -24,7 +25,7 @@ isNone s = same s star || isEmpty s
 unfoldable pub isMalformed : List ℕ → Bool
 isMalformed item = not (isEmpty item) && not (isStep item)
 
--- has the walk an empty step before its last? a mark stands at once behind a mark
+-- has the walk an empty step before its last? a step is a mark and the name up to the next mark, so a mark stands at once behind a mark
 unfoldable pub hasEmptyStep : List ℕ → Bool
 hasEmptyStep [] = false
 hasEmptyStep (b ∷ []) = false
@@ -89,3 +90,21 @@ pub data BadAt (text : List ℕ) : ℕ → ℕ → Type 0 where
 pub record ByteRefuses (text : List ℕ) (n from : ℕ) : Type 0 where
   pub bad : BadAt text n from
   pub first : (m k : ℕ) → k < from → BadAt text m k → ⊥
+
+-- ---- a call
+
+-- no byte of the text is bad
+abbrev pub NoneBad : List ℕ → Type 0
+NoneBad text = (n k : ℕ) → BadAt text n k → ⊥
+
+-- Why a call is refused before anything is answered, with a work area of so many words: each case shuts out the earlier ones.
+pub data CallRefuses (text : List ℕ) (work : ℕ) : Refusal → Type 0 where
+  -- 1: text longer than 1,048,576 bytes
+  text-long : 1048576 < length text → CallRefuses text work (plainly 1)
+  -- 2 and 3, by smallest offset
+  byte-bad : (n from : ℕ) → length text ≤ 1048576 → ByteRefuses text n from → CallRefuses text work (atPlace n from)
+  -- 4: work area shorter than 4 words per text byte plus 64
+  work-short : length text ≤ 1048576 → NoneBad text → work < 4 * length text + 64 → CallRefuses text work (plainly 4)
+  -- 5 to 17, lines in text order
+  line-bad : (n number : ℕ) → length text ≤ 1048576 → NoneBad text → 4 * length text + 64 ≤ work → TextRefuses text n number
+      → CallRefuses text work (onLine n number)
