@@ -86,13 +86,6 @@ fn number(s: &[u8]) {
     }
 }
 
-fn link(a: &[u8], b: &[u8]) {
-    let mut out = [46u8; 64];
-    label(b"put_link");
-    let next = writers::pieces::put_link(&mut out, 0, 65, a, 0, a.len(), 43, b, 0, b.len(), 45);
-    wrote(&out, next);
-}
-
 fn number_line(name: &[u8], n: u64) {
     let mut out = [46u8; 64];
     label(b"put_number_line");
@@ -223,7 +216,6 @@ fn writing() {
     decimal(9);
     decimal(10);
     decimal(18446744073709551615);
-    link(b"1", b"a,b");
     number_line(b"order", 18446744073709551615);
 }
 
