@@ -32,28 +32,28 @@ fn answer(yes: bool) {
 fn preview(s: &[u8]) {
     let mut out = [46u8; 64];
     label(b"put_preview");
-    let next = writers::bytes::put_preview(&mut out, 0, 65, s, 0, s.len());
+    let next = sequences::preview::put_preview(&mut out, 0, 65, s, 0, s.len());
     wrote(&out, next);
 }
 
 fn reversed(s: &[u8]) {
     let mut out = [46u8; 64];
     label(b"put_reversed");
-    let next = writers::bytes::put_reversed(&mut out, 0, 65, s, 0, s.len());
+    let next = sequences::oriented::put_reversed(&mut out, 0, 65, s, 0, s.len());
     wrote(&out, next);
 }
 
 fn oriented(s: &[u8], orientation: usize) {
     let mut out = [46u8; 64];
     label(b"put_oriented");
-    let next = writers::bytes::put_oriented(&mut out, 0, 65, s, 0, s.len(), orientation);
+    let next = sequences::oriented::put_oriented(&mut out, 0, 65, s, 0, s.len(), orientation);
     wrote(&out, next);
 }
 
 fn repeated(s: &[u8], times: usize) {
     let mut out = [46u8; 64];
     label(b"put_repeated");
-    let next = writers::bytes::put_repeated(&mut out, 0, 65, s, 0, s.len(), times);
+    let next = sequences::repeated::put_repeated(&mut out, 0, 65, s, 0, s.len(), times);
     wrote(&out, next);
 }
 
@@ -61,7 +61,7 @@ fn repeated(s: &[u8], times: usize) {
 fn measured(s: &[u8], times: usize, limit: usize) {
     let mut out = [46u8; 4];
     label(b"put_repeated, measured");
-    let next = writers::bytes::put_repeated(&mut out[..0], 0, limit, s, 0, s.len(), times);
+    let next = sequences::repeated::put_repeated(&mut out[..0], 0, limit, s, 0, s.len(), times);
     place(next);
 }
 

@@ -28,7 +28,7 @@ use tables::tables::Counts;
 use work::work::word;
 use writers::bytes::put_byte;
 use writers::bytes::put_constant;
-use writers::bytes::put_preview;
+use sequences::preview::put_preview;
 use writers::pieces::put_number_line;
 use writers::pieces::put_value_line;
 

@@ -19,7 +19,8 @@ use Rattle.tables.specs.declared.rows.SegmentWords.{SegmentWords}
 use Rattle.tables.specs.ByNumber.{segmentNo, segmentsOf, bytesIn, SegmentIs, NamedIs}
 use Rattle.tables.proofs.Numbers.{found-at, found-nothing, found-below, none-sequence, some-sequence}
 use Rattle.tables.proofs.ByNumber.{segments-nth}
-use Rattle.nodes.specs.Table.{numberWord, KnownIs}
+use Rattle.nodes.specs.Table.{KnownIs}
+use Rattle.work.specs.Rows.{wordOf}
 
 -- a sequence is at most as long as its bytes, and a part as the text
 length-less : (seq : List ℕ) → sequenceLen seq ≤ length seq
@@ -32,7 +33,7 @@ part-short from n text = simp (length-take, length-drop) (omega arith)
 
 module _ {text work : List ℕ} {b : Bases} {n : Counts} {name : Place} {r : Found} (h : NamedIs text work b n name r) where
   pub known-none : r ≡ found.Nothing → KnownIs text work b n name (record { number = 0; long = 0 })
-  unfolding numberWord sequenceOrEmpty sequenceLen same star
+  unfolding wordOf sequenceOrEmpty sequenceLen same star
   known-none e =
       let ss = segmentsOf text work b n in
       let z = found-nothing (segmentNumber ss (bytesIn text name)) (sym (h .answer) ∙ e) in
@@ -45,7 +46,7 @@ module _ {text work : List ℕ} {b : Bases} {n : Counts} {name : Place} {r : Fou
 
   pub known-some : {k long : ℕ} {w : SegmentWords} → r ≡ found.At (record { 0 = k }) → SegmentIs text work b k w → long ≡ sequenceLen (bytesIn text (w .sequence))
       → KnownIs text work b n name (record { number = k + 1; long = long })
-  unfolding numberWord sequenceOrEmpty
+  unfolding wordOf sequenceOrEmpty
   known-some {k} {long} {w} e s l =
       let ss = segmentsOf text work b n in
       let seq = bytesIn text (w .sequence) in

@@ -2,7 +2,6 @@
 use Prim.Native.Nat.{ℕ, zero, suc, _+_, _*_, _/_, _%_, _≤_, _<_}
 use mathlib.Core.Bool.{Bool, true, false, cond, _&&_}
 use mathlib.Core.List.{List, [], _∷_, _++_, map}
-use mathlib.Core.Option.{Option, none, some}
 use mathlib.Core.Path.{_≡_}
 use lib.Dec.{eqb}
 use lib.ListN.{length, getD}
@@ -11,7 +10,7 @@ use Rattle.gfa_spec.specs.Reading.{Segment, Link, Path}
 use Rattle.gfa_spec.specs.Records.{segmentNumber, sequenceOrEmpty, isSelfLink}
 use Rattle.gfa_spec.specs.Runs.{bit}
 use Rattle.gfa_spec.specs.Sequences.{sequenceLen}
-use Rattle.work.specs.Rows.{span, Only}
+use Rattle.work.specs.Rows.{span, Only, wordOf}
 use Rattle.tables.specs.declared.tables.Bases.{Bases}
 use Rattle.tables.specs.declared.tables.Counts.{Counts}
 use Rattle.tables.specs.declared.rows.Place.{Place}
@@ -140,14 +139,9 @@ bitsOf ls = code (any (isPair 43 43) ls) (any (isPair 43 45) ls) (any (isPair 45
 
 -- ---- the segment of a name
 
--- a number plus one, 0 for none
-unfoldable pub numberWord : Option ℕ → ℕ
-numberWord none = 0
-numberWord (some k) = suc k
-
 -- What is said of the segment of a name.
 pub record KnownIs (text work : List ℕ) (b : Bases) (n : Counts) (name : Place) (r : Known) : Type 0 where
-  pub number : r .number ≡ numberWord (segmentNumber (segmentsOf text work b n) (bytesIn text name))
+  pub number : r .number ≡ wordOf (segmentNumber (segmentsOf text work b n) (bytesIn text name))
   pub long : r .long ≡ sequenceLen (sequenceOrEmpty (segmentsOf text work b n) (bytesIn text name))
   pub small : r .number ≤ n .segs
   pub short : r .long ≤ length text
@@ -160,7 +154,7 @@ linksAmong ls node = keep (λ l. same (l .from) node && same (l .to) node) ls
 
 -- What the links say of a row's node.
 pub record LinkCounts (text : List ℕ) (ss : List Segment) (ls : List Link) (w : NodeWords) : Type 0 where
-  pub number : w .number ≡ numberWord (segmentNumber ss (bytesIn text (w .name)))
+  pub number : w .number ≡ wordOf (segmentNumber ss (bytesIn text (w .name)))
   pub long : w .long ≡ sequenceLen (sequenceOrEmpty ss (bytesIn text (w .name)))
   pub links : w .links ≡ length (linksAmong ls (bytesIn text (w .name)))
   pub bits : w .bits ≡ bitsOf (linksAmong ls (bytesIn text (w .name)))

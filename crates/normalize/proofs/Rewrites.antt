@@ -34,7 +34,8 @@ use Rattle.normalize_tables.proofs.NewsStand.{new-rows-kept, paths-kept, front-
 use Rattle.fold.specs.Transforms.{TransformIs}
 use Rattle.fold.specs.Pairings.{NewPairTotals}
 use Rattle.relink.specs.declared.settle.Links.{Links}
-use Rattle.relink.specs.Relinking.{Relinkable, SettledIs}
+use Rattle.relink.specs.Relinking.{SettledIs}
+use Rattle.link_ends.specs.LinkEnds.{Relinkable}
 use Rattle.rewrite.specs.Rewriting.{rewrittenFrom, WroteText}
 use Rattle.normalize.specs.declared.returning.NormalizeSelfLoopsResult.{NormalizeSelfLoopsResult}
 use Rattle.normalize.specs.declared.stats.NormalizeSelfLoopsStats.{NormalizeSelfLoopsStats}

@@ -24,8 +24,8 @@ use Rattle.work.proofs.Rows.{Kept, only-kept}
 use Rattle.reader.specs.declared.answers.Answer.{Answer}
 use Rattle.reader.specs.declared.input.Input.{Input}
 use Rattle.reader.specs.declared.input.Input.the-variants as input
-use Rattle.speller.specs.declared.spelling.Steps.{Steps}
-use Rattle.speller.specs.declared.spelling.Steps.the-variants as steps
+use Rattle.spelling.specs.declared.spelling.Steps.{Steps}
+use Rattle.spelling.specs.declared.spelling.Steps.the-variants as steps
 use Rattle.tables.specs.declared.tables.Bases.{Bases}
 use Rattle.tables.specs.declared.tables.Counts.{Counts}
 use Rattle.tables.specs.Links.{linksAt}
@@ -34,7 +34,7 @@ use Rattle.tables.specs.Entries.{entriesAt}
 use Rattle.reader.specs.Inputs.{stated, InputRead, InputIs}
 use Rattle.runs.specs.Counts.{overRows}
 use Rattle.reader.specs.Served.{refusedWith}
-use Rattle.speller.specs.Spelled.{BadStepIs}
+use Rattle.spelling.specs.Spelled.{BadStepIs}
 use Rattle.normalize_tables.specs.declared.layout.Layout.{Layout}
 use Rattle.normalize_tables.specs.Layout.{Placed, Source}
 use Rattle.normalize_tables.specs.Marks.{Marked}

@@ -12,8 +12,8 @@ use Rattle.normalize_spec.specs.Writing.{rewritten}
 use Rattle.normalize_spec.specs.Counting.{unchanged, rewrittenStats}
 use Rattle.normalize_spec.specs.Services.{normal, fold, fitted}
 use Rattle.reader.specs.declared.answers.Answer.{Answer}
-use Rattle.speller.specs.declared.spelling.Steps.{Steps}
-use Rattle.speller.specs.declared.spelling.Steps.the-variants as steps
+use Rattle.spelling.specs.declared.spelling.Steps.{Steps}
+use Rattle.spelling.specs.declared.spelling.Steps.the-variants as steps
 use Rattle.tables.specs.declared.tables.Bases.{Bases}
 use Rattle.tables.specs.declared.tables.Counts.{Counts}
 use Rattle.normalize_tables.specs.declared.layout.Layout.{Layout}

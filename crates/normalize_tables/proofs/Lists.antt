@@ -1,11 +1,8 @@
 -- Tests and counts over lists. Assumes nothing.
-use Prim.Native.Nat.{_+_}
-use native.Mathlib.Omega.{arith}
 use mathlib.Core.Bool.{Bool, true, false, _&&_, _||_, and-false}
-use mathlib.Core.List.{List, [], _∷_, _++_}
+use mathlib.Core.List.{List, [], _∷_}
 use mathlib.Core.Path.{_≡_, refl, _∙_}
-use Rattle.gfa_spec.specs.Bytes.{any, count}
-use Rattle.gfa_spec.specs.Runs.{bit}
+use Rattle.gfa_spec.specs.Bytes.{any}
 use Rattle.gfa_spec.proofs.Tests.{by-test}
 
 module _ {A : Type 0} where

@@ -11,7 +11,6 @@ use borrow.Author.Tests.{eq-eqb, not-true}
 use Rattle.gfa_spec.specs.Bytes.{part, same, any, nth, distinct}
 use Rattle.gfa_spec.specs.Reading.{Segment}
 use Rattle.gfa_spec.specs.Records.{segmentNumber}
-use Rattle.gfa_spec.specs.Runs.{bit}
 use Rattle.gfa_spec.proofs.Tests.{by-test, and-left, and-right, or-left, or-right, same-equal, same-sym}
 use Rattle.normalize_spec.proofs.Marks.{named}
 use Rattle.work.proofs.Rows.{rows-nth, rows-length}

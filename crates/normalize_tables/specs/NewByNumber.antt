@@ -88,10 +88,14 @@ pub record NewSegmentIs (text work : List ℕ) (b : Bases) (n : Counts) (g : Lay
   pub count : r .count ≤ n .steps
   pub suffix : r .suffix ≤ n .segs + n .steps
 
+-- the new step that words stand for; `names` are the IDs of the nodes
+abbrev pub stepIn : List (List ℕ) → NewStepWords → NewStep
+stepIn names s = record { name = nth (s .node) names []; orientation = s .mark }
+
 -- The words are those of new step k.
 pub record NewStepIs (work : List ℕ) (n : Counts) (g : Layout) (m : Made) (k : ℕ) (r : NewStepWords) : Type 0 where
   pub words : r ≡ stepWords work g k
-  pub step : (names : List (List ℕ)) → newStepNo names work g k ≡ record { name = nth (r .node) names []; orientation = r .mark }
+  pub step : (names : List (List ℕ)) → newStepNo names work g k ≡ stepIn names r
   pub node : r .node < n .segs + m .segs
   pub mark : isOrientation (r .mark) ≡ true
 

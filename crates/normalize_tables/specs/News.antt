@@ -5,7 +5,7 @@ use mathlib.Core.List.{List, [], _∷_}
 use mathlib.Core.Option.{Option, none, some, Option·map}
 use mathlib.Core.Path.{_≡_}
 use lib.Dec.{ltb}
-use lib.ListN.{length, getD}
+use lib.ListN.{getD}
 use Rattle.gfa_spec.specs.Bytes.{same, any, nth, repeat}
 use Rattle.gfa_spec.specs.Decimal.{decimal, largest64}
 use Rattle.gfa_spec.specs.Reading.{Segment, isOrientation}

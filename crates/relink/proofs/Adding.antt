@@ -35,8 +35,9 @@ use Rattle.normalize_tables.proofs.NewByNumber.{new-paths-more, new-steps-next,
 use Rattle.normalize_tables.proofs.NewsStand.{new-step-kept, front-kept}
 use Rattle.relink.specs.declared.lookup.Pair.{Pair}
 use Rattle.relink.specs.declared.pairs.Tally.{Tally}
-use Rattle.relink.specs.Relinking.{Relinkable, AddedRows, Ended, pairNo, PairIs, LinkFound, withLink, isLoop, Adds, Grows, PairAdded, PathAdded, noneAdded, PathsAdded}
-use Rattle.relink.proofs.Endings.{relinkable-stands, ends-kept}
+use Rattle.relink.specs.Relinking.{AddedRows, Ended, pairNo, PairIs, LinkFound, withLink, isLoop, Adds, Grows, PairAdded, PathAdded, noneAdded, PathsAdded}
+use Rattle.link_ends.specs.LinkEnds.{Relinkable}
+use Rattle.link_ends.proofs.Endings.{relinkable-stands, ends-kept}
 use Rattle.relink.proofs.Lookups.{pair-key}
 
 -- ---- what is kept

@@ -27,7 +27,8 @@ use Rattle.normalize_tables.proofs.Nodes.{names-length}
 use Rattle.normalize_tables.proofs.Sources.{standing}
 use Rattle.normalize_tables.proofs.NewsStand.{names-kept, paths-kept, front-kept}
 use Rattle.relink.specs.declared.pairs.Tally.{Tally}
-use Rattle.relink.specs.Relinking.{Relinkable, AllEnds, Ended, keptKeys, isLoop, PathsAdded, SettledIs}
+use Rattle.relink.specs.Relinking.{Ended, keptKeys, isLoop, PathsAdded, SettledIs}
+use Rattle.link_ends.specs.LinkEnds.{Relinkable, AllEnds}
 use Rattle.relink.proofs.Adding.{before-kept, ended-stands}
 
 -- ---- links with equal ends

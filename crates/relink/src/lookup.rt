@@ -1,9 +1,10 @@
 // Is there a link of exactly the four parts of a pair of new steps? Nodes are compared by their numbers.
 ghost use mathlib.Core.Path.{_≡_};
 ghost use Prim.Native.Nat.{_+_, _<_};
-ghost use Rattle.relink.specs.Relinking.{Relinkable, AddedRows, PairThere, PairIs, pairIs, nodesAre, marksAre, LinkMatch, KeptIs, AddedIs, LinkFound};
-use crate::ends::Ends;
-use crate::ends::ends_at;
+ghost use Rattle.relink.specs.Relinking.{AddedRows, PairThere, PairIs, pairIs, nodesAre, marksAre, LinkMatch, KeptIs, AddedIs, LinkFound};
+ghost use Rattle.link_ends.specs.LinkEnds.{Relinkable};
+use link_ends::ends::Ends;
+use link_ends::ends::ends_at;
 use normalize_tables::layout::Area;
 use normalize_tables::rows::NewStepWords;
 use normalize_tables::rows::new_step_at;

@@ -2,7 +2,8 @@
 ghost use mathlib.Core.Path.{_≡_};
 ghost use Prim.Native.Nat.{_+_, _-_, _≤_, _<_};
 ghost use lib.ListN.{length, set};
-ghost use Rattle.relink.specs.Relinking.{Relinkable, AddedRows, withLink, PairAdded, PathAdded, PathsAdded};
+ghost use Rattle.relink.specs.Relinking.{AddedRows, withLink, PairAdded, PathAdded, PathsAdded};
+ghost use Rattle.link_ends.specs.LinkEnds.{Relinkable};
 use crate::lookup::find_link;
 use crate::lookup::pair_at;
 use normalize_tables::layout::Area;

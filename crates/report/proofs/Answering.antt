@@ -29,7 +29,7 @@ use Rattle.writers.proofs.Writing.{being, _▷_, measured, measured-long, writt
 use Rattle.report_spec.specs.Nodes.{nodes, nodeOf}
 use Rattle.report_spec.specs.Services.{reportEntries, reportText}
 use Rattle.report.specs.declared.totals.Totals.{Totals}
-use Rattle.nodes.specs.Table.{nameNo, numberWord, linksAmong}
+use Rattle.nodes.specs.Table.{nameNo, linksAmong}
 use Rattle.tables.proofs.ByNumber.{links-length, segments-length, paths-length}
 use Rattle.tally.specs.Tabled.{Tabled}
 use Rattle.ranks.specs.declared.ranking.Order.the-variants.{Lengths, Ranks}
@@ -43,12 +43,13 @@ use Rattle.ranks.proofs.Merges.{nums-below}
 use Rattle.node_lines.proofs.Lengths.{sorted-rising}
 use Rattle.ranks.proofs.Numbering.{each-up}
 use Rattle.report.proofs.Reported.{number-small, EntriesAre, ranked-tabled, by-length, report-is}
+use Rattle.work.specs.Rows.{wordOf}
 
 -- ---- what the writers ask
 
 -- a number plus one, of a segment
-word-small : (o : Option ℕ) (n : ℕ) → ((k : ℕ) → o ≡ some k → k < n) → numberWord o ≤ n
-unfolding numberWord
+word-small : (o : Option ℕ) (n : ℕ) → ((k : ℕ) → o ≡ some k → k < n) → wordOf o ≤ n
+unfolding wordOf
 word-small none n h = omega arith
 word-small (some k) n h = h k refl
 

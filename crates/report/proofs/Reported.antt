@@ -31,7 +31,7 @@ use Rattle.runs.specs.Counts.{overRows}
 use Rattle.report_spec.specs.Nodes.{eachOnce, nodes, nodeOf, linksOn, orderOf, orientations, repeats, longest as longestOf}
 use Rattle.report_spec.specs.Lines.{bucketLine, report}
 use Rattle.nodes.specs.Counters.{named}
-use Rattle.nodes.specs.Table.{counterNo, nameNo, namesTo, code, isPair, bitsOf, numberWord, linksAmong}
+use Rattle.nodes.specs.Table.{counterNo, nameNo, namesTo, code, isPair, bitsOf, linksAmong}
 use Rattle.tally.specs.Tabled.{Tabled}
 use Rattle.ranks.specs.declared.ranking.Order.the-variants.{Lengths, Ranks}
 use Rattle.ranks.specs.Ranking.{orderFrom, nodeKey, byLinks, byRank, goesBy, wordAt, numsAt, upTo}
@@ -49,12 +49,13 @@ use Rattle.writers.proofs.Joining.{ended-append}
 use Rattle.ranks.proofs.Numbering.{each-up}
 use Rattle.nodes.proofs.Pairs.{each, both as bothOf, of-each}
 use Rattle.tally.proofs.Linking.{tabled-stands}
+use Rattle.work.specs.Rows.{wordOf}
 
 -- ---- a node, word by word
 
 -- the segment's number
-order-word : (o : Option ℕ) → orderFrom (numberWord o) ≡ Option·getD o largest64
-unfolding orderFrom numberWord
+order-word : (o : Option ℕ) → orderFrom (wordOf o) ≡ Option·getD o largest64
+unfolding orderFrom wordOf
 order-word none = refl
 order-word (some k) = rw (ne-eqb (suc k) 0 (λ e. omega arith)) (omega arith)
 
@@ -121,8 +122,8 @@ number-small (s ∷ ss) name k e =
 
 -- the preview of the segment, by its number
 preview-word : (text w : List ℕ) (b : Bases) (n : Counts) (name : List ℕ) (o : Option ℕ) → segmentNumber (segmentsOf text w b n) name ≡ o
-    → previewFrom text w b (numberWord o) ≡ sequencePreview (sequenceOrEmpty (segmentsOf text w b n) name)
-unfolding numberWord previewFrom sequenceOrEmpty
+    → previewFrom text w b (wordOf o) ≡ sequencePreview (sequenceOrEmpty (segmentsOf text w b n) name)
+unfolding wordOf previewFrom sequenceOrEmpty
 preview-word text w b n name none e = rw (none-sequence (segmentsOf text w b n) name e) (unfold sequencePreview in refl)
 preview-word text w b n name (some k) e =
     let ss = segmentsOf text w b n in
@@ -207,7 +208,7 @@ module _ {es : List Entry} {text w w' : List ℕ} {b : Bases} {n : Counts} {m : 
         let ls = linksTo text w b (n .links) in
         let ps = pathsTo text w b (n .paths) in
         let before = preview-word text w' b n name (segmentNumber (segmentsOf text w' b n) name) refl in
-        let preview : previewFrom text w' b (numberWord (segmentNumber ss name)) ≡ sequencePreview (sequenceOrEmpty ss name) = rw (segments-stand (l .readable) keeps-tables) at before in
+        let preview : previewFrom text w' b (wordOf (segmentNumber ss name)) ≡ sequencePreview (sequenceOrEmpty ss name) = rw (segments-stand (l .readable) keeps-tables) at before in
         let path : pathFrom text w' b first ≡ named first ps = rw (paths-stand (l .readable) keeps-tables) at (path-word text w' b n first (omega (arith, c .known, paths-length text w b (n .paths)))) in
         rw (
           x .of-segments,

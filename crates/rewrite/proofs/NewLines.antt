@@ -1,13 +1,10 @@
 -- The lines of new segments and of added links, piece by piece. Assumes nothing.
 use Prim.Native.Nat.{ℕ, _+_, _*_, _<_}
 use native.Mathlib.Omega.{arith}
-use mathlib.Core.Bool.{true}
 use mathlib.Core.List.{List, [], _∷_, append-assoc}
-use mathlib.Core.Path.{_≡_, refl}
+use mathlib.Core.Path.{_≡_}
 use lib.ListN.{getD}
 use Rattle.gfa_spec.specs.Bytes.{bytes, nth, repeat, joinWith, tabbed, endLine}
-use Rattle.gfa_spec.specs.Reading.{isOrientation}
-use Rattle.gfa_spec.proofs.Steps.{by-orientation}
 use Rattle.normalize_spec.specs.Writing.{segmentLine, linkLine}
 use Rattle.work.specs.Rows.{EachRow}
 use Rattle.writers.specs.Writers.{Wrote}
@@ -25,7 +22,7 @@ use Rattle.normalize_tables.specs.News.{newAt, KeyRow}
 use Rattle.normalize_tables.specs.NewByNumber.{newStepNo, NewSegmentIs, NewStepIs}
 use Rattle.normalize_tables.specs.Rewritten.{NewRows}
 use Rattle.rewrite.specs.Pieces.{newPiece, stepEnd, pairLine, addedPiece}
-use Rattle.rewrite.specs.Rewriting.{Rewritable}
+use Rattle.path_lines.specs.PathPieces.{Rewritable}
 
 -- ---- what is asked
 
@@ -49,10 +46,6 @@ module _ (text work : List ℕ) (b : Bases) (g : Layout) (first j : ℕ) {limit 
   new-written sort id sequence end = being (simp append-assoc) (sort ▷ id ▷ sequence ▷ end)
 
 -- ---- added links
-
--- + or -
-pub orientation-minus : (o : ℕ) → isOrientation o ≡ true → (o ≡ 43 → ⊥) → 45 ≡ o
-orientation-minus o h k = by-orientation (λ o. (o ≡ 43 → ⊥) → 45 ≡ o) (λ d. absurd (d refl)) (λ d. refl) o h k
 
 module _ (names : List (List ℕ)) (work : List ℕ) (g : Layout) (k : ℕ) {limit at r : ℕ} {out out' : List ℕ} where
   -- one end

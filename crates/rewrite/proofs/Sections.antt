@@ -3,10 +3,10 @@ use Prim.Native.Nat.{ℕ, zero, suc, _+_, _*_, _<_}
 use native.Mathlib.Numerals.{add-one}
 use native.Mathlib.Omega.{arith}
 use mathlib.Core.Bool.{Bool, true, false, cond, not}
-use mathlib.Core.List.{List, [], _∷_, _++_, map, map-append, append-nil}
+use mathlib.Core.List.{List, [], _∷_, _++_, map, append-nil}
 use mathlib.Core.Path.{_≡_, refl, sym, _∙_}
 use lib.Dec.{eqb}
-use lib.ListN.{length, length-append, getD}
+use lib.ListN.{length, getD}
 use Rattle.gfa_spec.specs.Bytes.{join, keep, endLine, ended, one, nil}
 use Rattle.gfa_spec.specs.Reading.{Entry, Link, Path, choose}
 use Rattle.gfa_spec.specs.Records.{collect, leading, others}
@@ -16,7 +16,8 @@ use Rattle.normalize_spec.specs.Folding.{NewStep}
 use Rattle.normalize_spec.specs.Writing.{segmentLine, linkLine, pathLine, pathLines}
 use Rattle.work.specs.Rows.{rowsAt}
 use Rattle.work.proofs.Rows.{rows-snoc}
-use Rattle.writers.proofs.Joining.{join-last, ended-append, ended-last}
+use Rattle.writers.proofs.Joining.{ended-last}
+use Rattle.writers.proofs.Rowing.{grown, table-length, pieces-same, pieces-many, pieces-lines}
 use Rattle.tables.specs.declared.tables.Bases.{Bases}
 use Rattle.tables.specs.declared.tables.Counts.{Counts}
 use Rattle.tables.specs.Entries.{entriesAt}
@@ -29,35 +30,9 @@ use Rattle.normalize_tables.proofs.Nodes.{news-more}
 use Rattle.normalize_tables.proofs.NewByNumber.{new-paths-more}
 use Rattle.rewrite.specs.declared.lines.Class.{Class}
 use Rattle.rewrite.specs.declared.lines.Class.the-variants as class
-use Rattle.rewrite.specs.Pieces.{piecesTo, classLines, rawPiece, segmentPiece, newPiece, keptPiece, pairLine, addedPiece, pathPiece}
-
--- pieces that are the same row by row
-pieces-same : (piece other : ℕ → List ℕ) (n : ℕ) → ((i : ℕ) → i < n → piece i ≡ other i) → piecesTo piece n ≡ piecesTo other n
-unfolding piecesTo
-pieces-same piece other zero h = refl
-pieces-same piece other (suc n) h = rw (pieces-same piece other n (λ i l. h i (omega arith)), h n (omega arith))
-
--- ---- a table that grows row by row
-
-module _ {A : Type 0} (table : ℕ → List A) (row : ℕ → A) (none : table 0 ≡ []) (more : (i : ℕ) → table (i + 1) ≡ table i ++ (row i ∷ [])) where
-  pub grown : (n : ℕ) → table (suc n) ≡ table n ++ (row n ∷ [])
-  grown n = rw (← add-one n) (more n)
-
-  pub table-length : (n : ℕ) → length (table n) ≡ n
-  table-length zero = rw none
-  table-length (suc n) = rw (grown n, length-append, table-length n) (omega arith)
-
-  -- lines for each row
-  pieces-many : (f : A → List (List ℕ)) (n : ℕ) → ended (join (map f (table n))) ≡ piecesTo (λ i. ended (f (row i))) n
-  unfolding piecesTo
-  pieces-many f zero = rw none (unfold ended join in refl)
-  pieces-many f (suc n) = rw (grown n, map-append, join-last (map f (table n)), ended-append, pieces-many f n)
-
-  -- one line for each row
-  pieces-lines : (f : A → List ℕ) (n : ℕ) → ended (map f (table n)) ≡ piecesTo (λ i. endLine (f (row i))) n
-  unfolding piecesTo
-  pieces-lines f zero = rw none (unfold ended join in refl)
-  pieces-lines f (suc n) = rw (grown n, map-append, ended-last (map f (table n)), pieces-lines f n)
+use Rattle.rewrite.specs.Pieces.{classLines, rawPiece, segmentPiece, newPiece, keptPiece, pairLine, addedPiece}
+use Rattle.writers.specs.Writers.{piecesTo}
+use Rattle.path_lines.specs.PathPieces.{pathPiece}
 
 -- ---- raw lines
 

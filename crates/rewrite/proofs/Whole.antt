@@ -5,7 +5,7 @@ use mathlib.Core.Path.{_≡_}
 use Rattle.gfa_spec.specs.Bytes.{ended}
 use Rattle.gfa_spec.specs.Reading.{Segment}
 use Rattle.normalize_spec.specs.Links.{isRemoved}
-use Rattle.writers.specs.Writers.{Wrote}
+use Rattle.writers.specs.Writers.{Wrote, piecesTo}
 use Rattle.writers.proofs.Writing.{being, _▷_}
 use Rattle.writers.proofs.Joining.{ended-append}
 use Rattle.tables.specs.declared.tables.Bases.{Bases}
@@ -14,9 +14,10 @@ use Rattle.normalize_tables.specs.declared.layout.Layout.{Layout}
 use Rattle.normalize_tables.specs.declared.layout.Made.{Made}
 use Rattle.normalize_tables.specs.Rewritten.{Relinked}
 use Rattle.rewrite.specs.declared.lines.Class.the-variants as class
-use Rattle.rewrite.specs.Pieces.{piecesTo, nodes, rawPiece, segmentPiece, newPiece, keptPiece, addedPiece, pathPiece}
+use Rattle.rewrite.specs.Pieces.{rawPiece, segmentPiece, newPiece, keptPiece, addedPiece}
 use Rattle.rewrite.specs.Rewriting.{frontAt, backAt, rewrittenFrom, WroteText}
 use Rattle.rewrite.proofs.Sections.{leading-pieces, segment-pieces, new-pieces, others-pieces, kept-pieces, added-pieces, paths-pieces}
+use Rattle.path_lines.specs.PathPieces.{nodes, pathPiece}
 
 -- seven sections
 seven : (a b c d e f g : List (List ℕ)) → ended (a ++ (b ++ (c ++ (d ++ (e ++ (f ++ g)))))) ≡ (ended a ++ (ended b ++ (ended c ++ ended d))) ++ (ended e ++ (ended f ++ ended g))

@@ -1,37 +1,23 @@
 -- The pieces of the rewritten text, by the numbers of the rows. Document 01, "Folding", rule 7.
-use Prim.Native.Nat.{ℕ, zero, suc, _+_, _*_}
+use Prim.Native.Nat.{ℕ, _+_, _*_}
 use mathlib.Core.Bool.{cond}
 use mathlib.Core.List.{List, [], _∷_, _++_}
 use lib.Dec.{eqb}
 use lib.ListN.{length, getD}
-use Rattle.gfa_spec.specs.Bytes.{Part, nil, nth, endLine, ended}
-use Rattle.gfa_spec.specs.Reading.{Entry, Kind, P, W, fields, choose}
+use Rattle.gfa_spec.specs.Bytes.{nil, endLine, ended}
+use Rattle.gfa_spec.specs.Reading.{Entry, choose}
 use Rattle.normalize_spec.specs.Folding.{NewStep}
-use Rattle.normalize_spec.specs.Writing.{segmentLine, linkLine, pToken, wToken, pathLine}
-use Rattle.scan.specs.Places.{partAt}
+use Rattle.normalize_spec.specs.Writing.{segmentLine, linkLine}
 use Rattle.tables.specs.declared.entry.Record.{Record}
 use Rattle.tables.specs.declared.entry.Record.the-variants.{Segment, Link, Path, Header, Comment, Blank, Other}
 use Rattle.tables.specs.declared.tables.Bases.{Bases}
-use Rattle.tables.specs.declared.tables.Counts.{Counts}
-use Rattle.tables.specs.declared.rows.Place.{Place}
-use Rattle.tables.specs.ByNumber.{entryNo, segmentNo, linkNo, pathNo}
+use Rattle.tables.specs.ByNumber.{entryNo, segmentNo, linkNo}
 use Rattle.normalize_tables.specs.declared.layout.Layout.{Layout}
-use Rattle.normalize_tables.specs.declared.layout.Made.{Made}
-use Rattle.normalize_tables.specs.declared.rows.NewStepWords.{NewStepWords}
-use Rattle.normalize_tables.specs.News.{newAt, namesAt}
-use Rattle.normalize_tables.specs.NewByNumber.{newStepNo, newPathNo}
+use Rattle.normalize_tables.specs.News.{newAt}
+use Rattle.normalize_tables.specs.NewByNumber.{newStepNo}
 use Rattle.rewrite.specs.declared.lines.Class.{Class}
 use Rattle.rewrite.specs.declared.lines.Class.the-variants as class
 use Rattle.rewrite.specs.declared.lines.Raw.{Raw}
-
--- the pieces of the first n rows, one behind the other
-unfoldable pub piecesTo : (ℕ → List ℕ) → ℕ → List ℕ
-piecesTo piece zero = []
-piecesTo piece (suc n) = piecesTo piece n ++ piece n
-
--- the IDs of the nodes
-abbrev pub nodes : List ℕ → List ℕ → Bases → Counts → Layout → Made → List (List ℕ)
-nodes text work b n g m = namesAt text work b n g (m .first) (m .segs)
 
 -- ---- lines as they came
 
@@ -84,31 +70,3 @@ pairLine names work g k = endLine (linkLine (record { from = newStepNo names wor
 -- the line of added link i
 unfoldable pub addedPiece : List (List ℕ) → List ℕ → Layout → ℕ → List ℕ
 addedPiece names work g i = pairLine names work g (getD work (g .added + i) 0)
-
--- ---- paths
-
--- the new step that words stand for
-abbrev pub stepIn : List (List ℕ) → NewStepWords → NewStep
-stepIn names s = record { name = nth (s .node) names []; orientation = s .mark }
-
--- step k of a path: in a P line behind a comma (44), but for the first
-unfoldable pub tokenOf : Kind → ℕ → NewStep → List ℕ
-tokenOf P k s = cond (eqb k 0) [] (44 ∷ []) ++ pToken s
-tokenOf W k s = wToken s
-
--- the same of step k of those from new step `first` on
-unfoldable pub tokenPiece : Kind → List (List ℕ) → List ℕ → Layout → ℕ → ℕ → List ℕ
-tokenPiece kind names work g first k = tokenOf kind k (newStepNo names work g (first + k))
-
--- the fields of a line
-abbrev pub fieldsIn : List ℕ → Place → List Part
-fieldsIn text line = fields (partAt text (line .start) (line .size))
-
--- the overlaps `*`, behind a tab, of a P line that has none
-unfoldable pub overlapsOf : Kind → List Part → List ℕ
-overlapsOf P fs = cond (eqb (length fs) 3) (9 ∷ 42 ∷ []) []
-overlapsOf W fs = []
-
--- the line of path p with its new steps
-unfoldable pub pathPiece : List (List ℕ) → List ℕ → List ℕ → Bases → Layout → ℕ → List ℕ
-pathPiece names text work b g p = endLine (pathLine (pathNo text work b p) (newPathNo names work g p))

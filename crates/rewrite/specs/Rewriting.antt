@@ -13,20 +13,13 @@ use Rattle.tables.specs.ByNumber.{segmentsOf, linksTo, pathsTo}
 use Rattle.tables.specs.Entries.{entriesAt}
 use Rattle.normalize_tables.specs.declared.layout.Layout.{Layout}
 use Rattle.normalize_tables.specs.declared.layout.Made.{Made}
-use Rattle.normalize_tables.specs.Layout.{Source}
 use Rattle.normalize_tables.specs.News.{newsAt, namesAt, keysAt}
 use Rattle.normalize_tables.specs.NewByNumber.{newPathsTo}
-use Rattle.normalize_tables.specs.Rewritten.{NewRows, Relinked}
-use Rattle.new_ids.specs.Ids.{Named}
-use Rattle.writers.specs.Writers.{Wrote}
+use Rattle.normalize_tables.specs.Rewritten.{Relinked}
+use Rattle.writers.specs.Writers.{Wrote, piecesTo}
 use Rattle.rewrite.specs.declared.lines.Class.the-variants as class
-use Rattle.rewrite.specs.Pieces.{piecesTo, nodes, rawPiece, segmentPiece, newPiece, keptPiece, addedPiece, pathPiece}
-
--- What is asked before the text is written: the tables of a text, the new segments, steps and paths, and that the nodes can be named.
-pub record Rewritable (text work : List ℕ) (b : Bases) (n : Counts) (g : Layout) (m : Made) : Type 0 where
-  pub source : Source text work b n g
-  pub rows : NewRows work n g m
-  pub named : Named text work b n g (m .segs)
+use Rattle.rewrite.specs.Pieces.{rawPiece, segmentPiece, newPiece, keptPiece, addedPiece}
+use Rattle.path_lines.specs.PathPieces.{nodes, pathPiece}
 
 -- the text up to the other lines
 unfoldable pub frontAt : List ℕ → List ℕ → Bases → Counts → Layout → Made → List ℕ

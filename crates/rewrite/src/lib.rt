@@ -2,5 +2,4 @@
 pub mod lines;
 pub mod links;
 pub mod news;
-pub mod paths;
 pub mod rewritten;

@@ -2,8 +2,8 @@
 ghost use mathlib.Core.Path.{_≡_};
 ghost use Prim.Native.Nat.{_≤_, _<_};
 ghost use Rattle.tables.specs.Tables.{Readable};
-ghost use Rattle.writers.specs.Writers.{Wrote};
-ghost use Rattle.rewrite.specs.Pieces.{rawOf, classNo, piecesTo, rawPiece, segmentPiece};
+ghost use Rattle.writers.specs.Writers.{Wrote, piecesTo};
+ghost use Rattle.rewrite.specs.Pieces.{rawOf, classNo, rawPiece, segmentPiece};
 use normalize_tables::layout::Area;
 use tables::entry::RawLine;
 use tables::entry::Record;

@@ -1,14 +1,12 @@
 // The lines of the kept links and of the added ones.
-ghost use mathlib.Core.Path.{_≡_};
-ghost use mathlib.Core.Bool.{true};
 ghost use Prim.Native.Nat.{_+_, _≤_, _<_};
-ghost use Rattle.gfa_spec.specs.Reading.{isOrientation};
 ghost use Rattle.work.specs.Rows.{EachRow};
 ghost use Rattle.normalize_tables.specs.News.{KeyRow};
 ghost use Rattle.normalize_tables.specs.NewByNumber.{newStepNo};
-ghost use Rattle.writers.specs.Writers.{Wrote};
-ghost use Rattle.rewrite.specs.Pieces.{piecesTo, nodes, keptPiece, stepEnd, pairLine, addedPiece};
-ghost use Rattle.rewrite.specs.Rewriting.{Rewritable};
+ghost use Rattle.writers.specs.Writers.{Wrote, piecesTo};
+ghost use Rattle.rewrite.specs.Pieces.{keptPiece, stepEnd, pairLine, addedPiece};
+ghost use Rattle.path_lines.specs.PathPieces.{nodes, Rewritable};
+use path_lines::marks::sign_of;
 use new_ids::ids::put_id;
 use normalize_tables::layout::Area;
 use normalize_tables::rows::new_step_at;
@@ -57,17 +55,6 @@ pub fn put_kept_links(
         i += 1;
     }
     next
-}
-
-// The byte of an orientation.
-pub fn sign_of(o: usize) -> u8
-    requires { ⌜ isOrientation o ≡ true ⌝ }
-    ensures { λ r. ⌜ r ≡ o ⌝ }
-{
-    if o == 43 {
-        return b'+';
-    }
-    b'-'
 }
 
 // One end of an added link, new step `k`: its name, a tab, its orientation, a tab.

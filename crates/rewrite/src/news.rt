@@ -3,15 +3,15 @@ ghost use mathlib.Core.List.{_∷_};
 ghost use Prim.Native.Nat.{_≤_, _<_};
 ghost use Rattle.normalize_tables.specs.News.{newAt};
 ghost use Rattle.new_ids.specs.Ids.{Named};
-ghost use Rattle.writers.specs.Writers.{Wrote};
-ghost use Rattle.rewrite.specs.Pieces.{piecesTo, newPiece};
+ghost use Rattle.writers.specs.Writers.{Wrote, piecesTo};
+ghost use Rattle.rewrite.specs.Pieces.{newPiece};
 use new_ids::rows::put_new_id;
 use normalize_tables::layout::Area;
 use normalize_tables::rows::new_segment_at;
 use tables::rows::segment_at;
 use writers::bytes::put_byte;
 use writers::bytes::put_constant;
-use writers::bytes::put_repeated;
+use sequences::repeated::put_repeated;
 
 // The sequence of new segment `j`, behind a tab: its unit's, repeated.
 pub fn put_sequence(

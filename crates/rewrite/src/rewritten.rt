@@ -5,14 +5,15 @@ ghost use Rattle.normalize_tables.specs.Layout.{Source};
 ghost use Rattle.normalize_tables.specs.News.{KeyRow};
 ghost use Rattle.normalize_tables.specs.Rewritten.{NewRows};
 ghost use Rattle.writers.specs.Writers.{Wrote};
-ghost use Rattle.rewrite.specs.Rewriting.{frontAt, backAt, Rewritable, WroteText};
+ghost use Rattle.rewrite.specs.Rewriting.{frontAt, backAt, WroteText};
+ghost use Rattle.path_lines.specs.PathPieces.{Rewritable};
 use crate::lines::Class;
 use crate::lines::put_raw;
 use crate::lines::put_segments;
 use crate::links::put_added_links;
 use crate::links::put_kept_links;
 use crate::news::put_new_segments;
-use crate::paths::put_paths;
+use path_lines::paths::put_paths;
 use normalize_tables::layout::Area;
 
 // Headers, comments and blanks, the segments, the new segments, and the other lines.

@@ -1,3 +1,2 @@
--- Laws of the speller.
-pub mod Spelled
+-- Laws of the service that spells a path.
 pub mod Serving

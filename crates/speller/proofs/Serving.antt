@@ -10,8 +10,8 @@ use Rattle.tables.specs.declared.tables.Counts.{Counts}
 use Rattle.reader.specs.declared.answers.Answer.{Answer}
 use Rattle.reader.specs.declared.input.Input.{Input}
 use Rattle.reader.specs.declared.input.Input.the-variants as input
-use Rattle.speller.specs.declared.spelling.Spelt as code
-use Rattle.speller.specs.declared.spelling.Spelt.the-variants.{Bytes, Bad}
+use Rattle.spelling.specs.declared.spelling.Spelt as code
+use Rattle.spelling.specs.declared.spelling.Spelt.the-variants.{Bytes, Bad}
 use Rattle.gfa_spec.specs.Bytes.{nth}
 use Rattle.gfa_spec.specs.Reading.{Path}
 use Rattle.gfa_spec.specs.Records.{paths}
@@ -27,9 +27,9 @@ use Rattle.tables.specs.declared.rows.PathWords.{PathWords}
 use Rattle.tables.specs.ByNumber.{pathNo, segmentsOf, pathsTo, stepsFrom, PathIs}
 use Rattle.tables.proofs.ByNumber.{paths-length, paths-nth}
 use Rattle.reader.specs.Inputs.{stated, InputIs}
-use Rattle.speller.specs.Spelled.{SpeltInto, BadAt, SpeltIs, badAnswer}
+use Rattle.spelling.specs.Spelled.{SpeltInto, BadAt, SpeltIs, badAnswer}
 use Rattle.reader.specs.Served.{Answered, refusedWith}
-use Rattle.speller.proofs.Spelled.{bad-refusal, spelt-wrote}
+use Rattle.spelling.proofs.Spelled.{bad-refusal, spelt-wrote}
 use Rattle.reader.proofs.Serving.{refuses, gives, was-read}
 
 -- ---- measured, and then refused or written

@@ -1,3 +1,2 @@
-// The speller: the bytes that steps spell, and the service that spells a path.
+// The service that spells a path.
 pub mod services;
-pub mod spelling;

@@ -6,7 +6,7 @@ use lib.ListN.{length}
 use Rattle.gfa_spec.specs.Reading.{Segment}
 use Rattle.gfa_spec.specs.Records.{segmentNumber, sequenceOrEmpty}
 use Rattle.gfa_spec.specs.Sequences.{sequenceLen}
-use Rattle.work.specs.Rows.{span, Only}
+use Rattle.work.specs.Rows.{span, Only, wordOf}
 use Rattle.tables.specs.declared.tables.Bases.{Bases}
 use Rattle.tables.specs.declared.tables.Counts.{Counts}
 use Rattle.tables.specs.declared.rows.LinkWords.{LinkWords}
@@ -15,7 +15,7 @@ use Rattle.tables.specs.Tables.{Readable}
 use Rattle.runs.specs.Counts.{overRows}
 use Rattle.nodes.specs.declared.nodes.NodeWords.{NodeWords}
 use Rattle.nodes.specs.Counters.{noCounter}
-use Rattle.nodes.specs.Table.{nodesEnd, RowPut, markedOf, numberWord, CountRows, NodeTable}
+use Rattle.nodes.specs.Table.{nodesEnd, RowPut, markedOf, CountRows, NodeTable}
 
 -- The tables of a text stand in the work area: the node table begins behind them.
 pub record Tabled (text work : List ℕ) (b : Bases) (n : Counts) : Type 0 where
@@ -28,7 +28,7 @@ abbrev pub newNode : List ℕ → List Segment → LinkWords → NodeWords
 newNode text ss l =
     record {
       name = l .from;
-      number = numberWord (segmentNumber ss (bytesIn text (l .from)));
+      number = wordOf (segmentNumber ss (bytesIn text (l .from)));
       long = sequenceLen (sequenceOrEmpty ss (bytesIn text (l .from)));
       links = 1;
       bits = markedOf 0 (l .leaves) (l .enters);

@@ -2,6 +2,7 @@
 use Prim.Native.Nat.{ℕ, zero, suc, _+_, _*_, _≤_, _<_}
 use mathlib.Core.List.{List, [], _∷_, _++_}
 use mathlib.Core.Logic.{_⊎_}
+use mathlib.Core.Option.{Option, none, some}
 use mathlib.Core.Path.{_≡_}
 use lib.ListN.{length, getD}
 
@@ -20,6 +21,11 @@ pub record EachRow (P : List ℕ → ℕ → Type 0) (width : ℕ) (work : List 
 abbrev pub Small : List ℕ → Type 0
 Small [] = Unit {0}
 Small (v ∷ vs) = (v < 4294967296) × Small vs
+
+-- the word for a number that may be missing: the number plus one, or 0 for none
+unfoldable pub wordOf : Option ℕ → ℕ
+wordOf none = 0
+wordOf (some k) = suc k
 
 -- ---- what is kept
 

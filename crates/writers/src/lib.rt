@@ -1,5 +1,4 @@
 // The leaves that answers are made of: bytes and numbers, written.
 pub mod bytes;
-pub mod complement;
 pub mod numbers;
 pub mod pieces;

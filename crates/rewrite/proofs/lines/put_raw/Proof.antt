@@ -1,7 +1,7 @@
 -- `rewrite::lines::put_raw` meets its contract. The loop's invariant is its state at a line. Assumes nothing.
 use Prim.Native.Nat.{_-_}
 use borrow.Author.Needs.{needs}
-use Rattle.rewrite.proofs.Rowing.{Rowing, rowing-start, rowing-more, rowing-end}
+use Rattle.writers.proofs.Rowing.{Rowing, rowing-start, rowing-more, rowing-end}
 use Rattle.rewrite.specs.Pieces.{rawPiece}
 use Rattle.rewrite.proofs.lines.put_raw.Statement.{statement}
 use Rattle.rewrite.proofs.lines.put_raw.Tie as tie

@@ -2,7 +2,7 @@
 use Prim.Native.Nat.{_-_}
 use borrow.Author.Needs.{needs}
 use Rattle.rewrite.specs.Pieces.{segmentPiece}
-use Rattle.rewrite.proofs.Rowing.{Rowing, rowing-start, rowing-more, rowing-end}
+use Rattle.writers.proofs.Rowing.{Rowing, rowing-start, rowing-more, rowing-end}
 use Rattle.rewrite.proofs.lines.put_segments.Statement.{statement}
 use Rattle.rewrite.proofs.lines.put_segments.Tie as tie
 

@@ -2,10 +2,11 @@
 use Prim.Native.Nat.{_-_}
 use borrow.Author.Needs.{needs}
 use Rattle.rewrite.proofs.NewLines.{added-step, added-written}
-use Rattle.rewrite.proofs.Rowing.{Rowing, rowing-start, rowing-more, rowing-end}
-use Rattle.rewrite.specs.Pieces.{nodes, addedPiece}
+use Rattle.writers.proofs.Rowing.{Rowing, rowing-start, rowing-more, rowing-end}
+use Rattle.rewrite.specs.Pieces.{addedPiece}
 use Rattle.rewrite.proofs.links.put_added_links.Statement.{statement}
 use Rattle.rewrite.proofs.links.put_added_links.Tie as tie
+use Rattle.path_lines.specs.PathPieces.{nodes}
 
 abbrev Inv-loop : tie.InvT-loop
 Inv-loop out₀ at limit text work a extra next₀ i₀ out next i = Rowing (addedPiece (nodes text work (a .b) (a .n) (a .g) (a .m)) work (a .g)) limit out₀ at extra out next i

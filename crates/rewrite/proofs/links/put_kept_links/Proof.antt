@@ -2,7 +2,7 @@
 use Prim.Native.Nat.{_-_}
 use borrow.Author.Needs.{needs}
 use Rattle.rewrite.specs.Pieces.{keptPiece}
-use Rattle.rewrite.proofs.Rowing.{Rowing, rowing-start, rowing-more, rowing-end}
+use Rattle.writers.proofs.Rowing.{Rowing, rowing-start, rowing-more, rowing-end}
 use Rattle.rewrite.proofs.links.put_kept_links.Statement.{statement}
 use Rattle.rewrite.proofs.links.put_kept_links.Tie as tie
 

@@ -2,7 +2,7 @@
 use Prim.Native.Nat.{_-_}
 use borrow.Author.Needs.{needs}
 use Rattle.rewrite.specs.Pieces.{newPiece}
-use Rattle.rewrite.proofs.Rowing.{Rowing, rowing-start, rowing-more, rowing-end}
+use Rattle.writers.proofs.Rowing.{Rowing, rowing-start, rowing-more, rowing-end}
 use Rattle.rewrite.proofs.news.put_new_segments.Statement.{statement}
 use Rattle.rewrite.proofs.news.put_new_segments.Tie as tie
 

@@ -1,0 +1,2 @@
+-- What the contracts of the links say.
+pub mod LinkEnds

@@ -1,0 +1,2 @@
+-- What the contracts of the path lines say.
+pub mod PathPieces

@@ -1,2 +1,0 @@
--- What the contracts of the speller say.
-pub mod Spelled

@@ -1,0 +1,2 @@
+-- Laws of the spelling.
+pub mod Spelled

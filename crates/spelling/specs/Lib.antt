@@ -1,0 +1,2 @@
+-- What the contracts of the spelling say.
+pub mod Spelled

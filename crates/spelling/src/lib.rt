@@ -1,0 +1,2 @@
+// What steps spell, and the first bad step.
+pub mod spelling;
