@@ -17,6 +17,7 @@ use nodes::nodes::node_at;
 use ranks::ranking::order_from;
 use scan::places::Field;
 use scan::places::field_at;
+use sequences::preview::put_preview;
 use tables::entry::PathNo;
 use tables::entry::SegmentNo;
 use tables::kinds::PathKind;
@@ -28,7 +29,6 @@ use tables::tables::Counts;
 use work::work::word;
 use writers::bytes::put_byte;
 use writers::bytes::put_constant;
-use sequences::preview::put_preview;
 use writers::pieces::put_number_line;
 use writers::pieces::put_value_line;
 

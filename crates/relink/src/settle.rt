@@ -1,8 +1,8 @@
 // The links are settled: some are removed, the others are kept, and those that the new paths lack are added (document 01, "Folding", rule 6).
 ghost use Rattle.relink.specs.Relinking.{SettledIs};
 ghost use Rattle.link_ends.specs.LinkEnds.{Relinkable};
-use link_ends::ends::put_all_ends;
 use crate::pairs::add_paths;
+use link_ends::ends::put_all_ends;
 use normalize_tables::layout::Area;
 use runs::counts::self_links;
 

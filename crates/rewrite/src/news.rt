@@ -8,10 +8,10 @@ ghost use Rattle.rewrite.specs.Pieces.{newPiece};
 use new_ids::rows::put_new_id;
 use normalize_tables::layout::Area;
 use normalize_tables::rows::new_segment_at;
+use sequences::repeated::put_repeated;
 use tables::rows::segment_at;
 use writers::bytes::put_byte;
 use writers::bytes::put_constant;
-use sequences::repeated::put_repeated;
 
 // The sequence of new segment `j`, behind a tab: its unit's, repeated.
 pub fn put_sequence(

@@ -13,8 +13,8 @@ use crate::lines::put_segments;
 use crate::links::put_added_links;
 use crate::links::put_kept_links;
 use crate::news::put_new_segments;
-use path_lines::paths::put_paths;
 use normalize_tables::layout::Area;
+use path_lines::paths::put_paths;
 
 // Headers, comments and blanks, the segments, the new segments, and the other lines.
 pub fn put_front(

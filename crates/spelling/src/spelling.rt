@@ -9,6 +9,7 @@ ghost use Rattle.tables.specs.ByNumber.{segmentsOf, stepNo, stepsFrom, Inside};
 ghost use Rattle.spelling.specs.Spelled.{SequenceIs, SpeltIs, badAnswer, BadStepIs};
 use reader::answers::Answer;
 use scan::names::is_star;
+use sequences::oriented::put_oriented;
 use tables::entry::PathNo;
 use tables::rows::Place;
 use tables::rows::path_at;
@@ -19,7 +20,6 @@ use tables::segments::Found;
 use tables::tables::Bases;
 use tables::tables::Counts;
 use writers::bytes::advance;
-use sequences::oriented::put_oriented;
 
 // The sequence of a segment; or no segment has the name.
 pub enum Sequence {
