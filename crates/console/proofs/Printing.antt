@@ -1,10 +1,10 @@
 -- What is shown of a service's answer is what is to be printed. Assumes nothing.
-use Prim.Native.Nat.{ℕ, _+_, _-_, _≤_, _<_, min}
+use Prim.Native.Nat.{ℕ, _+_, _-_, _≤_, _<_}
 use native.Mathlib.Omega.{arith}
-use mathlib.Core.List.{List, [], _∷_, _++_}
+use mathlib.Core.List.{List, _++_}
 use mathlib.Core.Path.{_≡_, refl, sym, ap, _∙_}
 use lib.ListN.{length, take, drop, length-take, length-append}
-use lib.Seq.{sets, sets-eq, take-all, take-append-seam}
+use lib.Seq.{sets-eq, take-all, take-append-seam}
 use borrow.Author.Tests.{lt-ltb, le-ltb}
 use Rattle.gfa_spec.specs.Calls.{Refusal, plainly, Outcome, refusal, answer}
 use Rattle.writers.specs.Writers.{Wrote}

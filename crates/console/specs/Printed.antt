@@ -1,7 +1,7 @@
 -- What the two programs print. Document 01, "The four services".
 use Prim.Native.Nat.{ℕ, _≤_}
 use mathlib.Core.Bool.{cond}
-use mathlib.Core.List.{List, [], _∷_, _++_}
+use mathlib.Core.List.{List, _∷_, _++_}
 use mathlib.Core.Path.{_≡_}
 use lib.Dec.{ltb}
 use lib.ListN.{length, take}

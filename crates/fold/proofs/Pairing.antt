@@ -2,8 +2,8 @@
 use Prim.Native.Nat.{ℕ, _+_, _*_, _-_, _≤_, _<_}
 use native.Mathlib.Omega.{arith}
 use mathlib.Core.Bool.{Bool, true, false}
-use mathlib.Core.List.{List, [], _∷_, map}
-use mathlib.Core.Path.{_≡_, refl, sym, ap, _∙_}
+use mathlib.Core.List.{List, map}
+use mathlib.Core.Path.{_≡_, sym, ap, _∙_}
 use lib.Dec.{eqb}
 use lib.ListN.{length}
 use Rattle.gfa_spec.specs.Bytes.{sum, distinct}
@@ -21,20 +21,9 @@ use Rattle.normalize_tables.specs.NewByNumber.{newStepNo, newStepsFrom, newPath
 use Rattle.normalize_tables.proofs.Nodes.{same-place}
 use Rattle.normalize_tables.proofs.NewByNumber.{new-steps-next, new-steps-length, new-paths-all, new-paths-next, new-paths-none}
 use Rattle.fold.specs.Pairings.{NewPairsIs, NewPairTotals}
+use Rattle.gfa_spec.proofs.Runs.{pairs-none, pairs-cons}
 
 -- ---- the pairs of a list, row by row
-
--- fewer than two elements have no pair
-pairs-none : {A : Type 0} (p : A → A → Bool) (xs : List A) → length xs ≤ 1 → pairs p xs ≡ 0
-unfolding pairs
-pairs-none p [] h = refl
-pairs-none p (x ∷ []) h = refl
-pairs-none p (x ∷ (y ∷ xs)) h = absurd (omega arith)
-
--- an element before others
-pairs-cons : {A : Type 0} (p : A → A → Bool) (s t : A) (ts : List A) → pairs p (s ∷ (t ∷ ts)) ≡ bit (p s t) + pairs p (t ∷ ts)
-unfolding pairs
-pairs-cons p s t ts = refl
 
 -- The pairs of the new steps from `first` up to `end` are x, and those of the steps from k - 1 on.
 pub record Paired (p : NewStep → NewStep → Bool) (names : List (List ℕ)) (work : List ℕ) (g : Layout) (first end k x : ℕ) : Type 0 where

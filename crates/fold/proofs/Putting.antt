@@ -24,7 +24,7 @@ use Rattle.normalize_tables.specs.NewByNumber.{newStepNo, newStepsFrom, StepRoo
 use Rattle.normalize_tables.proofs.NewByNumber.{node-kept, mark-kept, steps-put-low, steps-put-paths, steps-put-segments, steps-put-steps, steps-put-behind, new-steps-next, new-steps-none}
 use Rattle.normalize_tables.proofs.NewsKept.{news-kept, names-kept, step-rows-kept}
 use Rattle.new_segs.specs.Makes.{madeAt, Making, Frame}
-use Rattle.fold.specs.Turns.{StepsPut, Stage}
+use Rattle.fold.specs.Turns.{EqualStepsPut, Stage}
 use Rattle.new_segs.proofs.Keeping.{kept-less, of-text, making-kept}
 
 -- ---- the rows
@@ -34,7 +34,7 @@ pub record Putting (first work : List ℕ) (g : Layout) (k : ℕ) (r : NewStepWo
   pub room : StepRoom work g (k + count)
   pub small : (r .node < 4294967296) × (r .mark < 4294967296)
   pub high : i ≤ count
-  pub put : StepsPut first work g k r i
+  pub put : EqualStepsPut first work g k r i
 
 module _ {first : List ℕ} {g : Layout} {k : ℕ} {r : NewStepWords} {count : ℕ} where
   pub putting-start : StepRoom first g (k + count) × (r .node < 4294967296) × (r .mark < 4294967296) → Putting first first g k r count 0
@@ -75,7 +75,7 @@ module _ {first : List ℕ} {g : Layout} {k : ℕ} {r : NewStepWords} {count : �
         mark-at j l b (yes q) = rw q (ap (λ x. x .mark) (e .words))
         mark-at j l b (no q) = mark-kept g old j (omega arith) ∙ s .put .marks j l (omega arith)
 
-    pub putting-end : count ≤ i → StepsPut first work g k r count
+    pub putting-end : count ≤ i → EqualStepsPut first work g k r count
     putting-end h = let all : i ≡ count = omega (arith, s .high) in rw all at (s .put)
 
 -- an orientation fits
@@ -94,7 +94,7 @@ steps-constant names w g k (suc c) x h =
     rw (h k (omega arith) (omega arith), place, steps-constant names w g (k + 1) c x (λ i l b. h i (omega arith) (omega arith))) (unfold copies in refl))
 
 module _ {text w w' : List ℕ} {b : Bases} {n : Counts} {g : Layout} {m : Made} {r : NewStepWords} {c : ℕ} (s : Stage text w b n g m) (room : m .steps + c ≤ n .steps)
-    (u : StepsPut w w' g (m .steps) r c) where
+    (u : EqualStepsPut w w' g (m .steps) r c) where
   placed : Placed b n g (length w)
   placed = s .making .source .placed
 

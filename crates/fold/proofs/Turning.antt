@@ -31,7 +31,7 @@ use Rattle.normalize_tables.specs.NewByNumber.{StepRoom}
 use Rattle.fold.specs.declared.turns.Target.{Target}
 use Rattle.new_segs.specs.Chains.{MadeIs}
 use Rattle.new_segs.specs.Makes.{madeAt, Wanted, Frame, SegmentMade}
-use Rattle.fold.specs.Turns.{StepsPut, FoldedIs, KnownIn, KnownStep, UnitIs, Folds, Stage, Room, standsAt, OnUnit, TargetIs, FoldIs, KeepIs, TurnIs}
+use Rattle.fold.specs.Turns.{EqualStepsPut, FoldedIs, KnownIn, KnownStep, UnitIs, Folds, Stage, Room, standsAt, OnUnit, TargetIs, FoldIs, KeepIs, TurnIs}
 use Rattle.new_segs.proofs.Lookups.{number-name}
 use Rattle.fold.proofs.Growing.{names-same, frame-none, frame-less, frame-then}
 use Rattle.fold.proofs.Finding.{made-found, made-none, name-of-unit, name-of-new}
@@ -120,7 +120,7 @@ module _ {text w : List ℕ} {b : Bases} {n : Counts} {g : Layout} {m : Made} {u
 
 -- a step on it
 module _ {text w v w' : List ℕ} {b : Bases} {n : Counts} {g : Layout} {m : Made} {unit count mark : ℕ} {t : Target} (room : Room n m count) (two : 2 ≤ count) (o : isOrientation mark ≡ true)
-    (a : TargetIs text w v b n g m unit count t) (u : StepsPut v w' g (m .steps) (record { node = t .node; mark = mark }) 1) where
+    (a : TargetIs text w v b n g m unit count t) (u : EqualStepsPut v w' g (m .steps) (record { node = t .node; mark = mark }) 1) where
   fits : m .steps + 1 ≤ n .steps
   fits = omega (arith, room .few)
 
@@ -153,7 +153,7 @@ module _ {text w v w' : List ℕ} {b : Bases} {n : Counts} {g : Layout} {m : Mad
 -- ---- a run that is kept
 
 module _ {text w w' : List ℕ} {b : Bases} {n : Counts} {g : Layout} {m : Made} {unit count mark : ℕ} (s : Stage text w b n g m) (room : Room n m count) (h : unit < n .segs) where
-  module _ (o : isOrientation mark ≡ true) (u : StepsPut w w' g (m .steps) (record { node = unit; mark = mark }) count) where
+  module _ (o : isOrientation mark ≡ true) (u : EqualStepsPut w w' g (m .steps) (record { node = unit; mark = mark }) count) where
     keep-fits : m .steps + count ≤ n .steps
     keep-fits = omega (arith, room .few)
 

@@ -27,7 +27,7 @@ use Rattle.new_segs.specs.Makes.{madeAt, Making, Frame}
 -- ---- the steps
 
 -- Rows of `count` equal new steps, from new step k on; only these rows have changed.
-pub record StepsPut (before work : List ℕ) (g : Layout) (k : ℕ) (r : NewStepWords) (count : ℕ) : Type 0 where
+pub record EqualStepsPut (before work : List ℕ) (g : Layout) (k : ℕ) (r : NewStepWords) (count : ℕ) : Type 0 where
   pub nodes : (i : ℕ) → k ≤ i → i < k + count → stepWords work g i .node ≡ r .node
   pub marks : (i : ℕ) → k ≤ i → i < k + count → stepWords work g i .mark ≡ r .mark
   pub long : length work ≡ length before

@@ -7,7 +7,7 @@ ghost use Rattle.gfa_spec.specs.Reading.{isOrientation};
 ghost use Rattle.tables.specs.ByNumber.{segmentsOf, bytesIn, Inside};
 ghost use Rattle.tables.specs.Tables.{Readable};
 ghost use Rattle.normalize_tables.specs.NewByNumber.{StepRoom};
-ghost use Rattle.fold.specs.Turns.{StepsPut, KnownIn, KnownStep, UnitIs, Stage, Room, FoldedIs, TargetIs, FoldIs, KeepIs, TurnIs};
+ghost use Rattle.fold.specs.Turns.{EqualStepsPut, KnownIn, KnownStep, UnitIs, Stage, Room, FoldedIs, TargetIs, FoldIs, KeepIs, TurnIs};
 use new_segs::chains::made_for;
 use new_segs::segs::make_segment;
 use normalize_tables::layout::Area;
@@ -33,7 +33,7 @@ pub struct Target {
 // Puts rows of `count` equal new steps from new step `k` on.
 pub fn put_steps(work: &mut [u32], g: Layout, k: usize, r: NewStepWords, count: usize)
     requires { ⌜ StepRoom (now work) g (k + count) × (r .node < 4294967296) × (r .mark < 4294967296) ⌝ }
-    ensures { λ _. ⌜ StepsPut (now (work .entry)) (now (work .exit)) g k r count ⌝ }
+    ensures { λ _. ⌜ EqualStepsPut (now (work .entry)) (now (work .exit)) g k r count ⌝ }
 {
     let mut i = 0;
     while i < count {

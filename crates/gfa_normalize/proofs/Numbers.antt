@@ -3,7 +3,7 @@ use Prim.Native.Nat.{ℕ, _≤_}
 use native.Mathlib.Omega.{arith}
 use mathlib.Core.List.{List}
 use mathlib.Core.Path.{_≡_, refl}
-use Rattle.gfa_spec.specs.Calls.{Refusal, Outcome, answer}
+use Rattle.gfa_spec.specs.Calls.{Refusal, Outcome}
 use Rattle.normalize_spec.specs.Services.{Normal, normal, normalize}
 use Rattle.normalize_spec.proofs.ServiceRefusals.{normalize-numbers}
 use Rattle.normalize.specs.Served.{outcomeOf}

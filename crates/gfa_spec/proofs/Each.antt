@@ -1,9 +1,11 @@
 -- A fact of each element of a list, and strings that lack a byte. Assumes nothing.
-use Prim.Native.Nat.{ℕ, zero, suc}
+use Prim.Native.Nat.{ℕ, zero, suc, _<_}
+use native.Mathlib.Omega.{arith}
 use mathlib.Core.Bool.{Bool, true, false, not}
 use mathlib.Core.List.{List, [], _∷_, _++_, map}
 use mathlib.Core.Path.{_≡_, refl}
 use lib.Dec.{eqb}
+use lib.ListN.{length}
 use borrow.Author.Tests.{not-true}
 use Rattle.gfa_spec.specs.Bytes.{same, any, all, keep, join, nth, distinct, Each}
 use Rattle.gfa_spec.proofs.Tests.{by-test, and-left, and-right, and-both, or-left, or-right, same-sym, any-append}
@@ -91,6 +93,13 @@ unfolding nth
 nth-map f k [] d = refl
 nth-map f zero (x ∷ xs) d = refl
 nth-map f (suc k) (x ∷ xs) d = nth-map f k xs d
+
+-- element k of a list, with another list behind it
+pub nth-front : {A : Type 0} (k : ℕ) (xs ys : List A) (d : A) → k < length xs → nth k (xs ++ ys) d ≡ nth k xs d
+unfolding nth
+nth-front k [] ys d l = absurd (omega arith)
+nth-front zero (x ∷ xs) ys d l = refl
+nth-front (suc k) (x ∷ xs) ys d l = nth-front k xs ys d (omega arith)
 
 -- each element has P, and so has the default: element k has P
 pub nth-each : {A : Type 0} (P : A → Type 0) (k : ℕ) (xs : List A) (d : A) → Each P xs → P d → P (nth k xs d)

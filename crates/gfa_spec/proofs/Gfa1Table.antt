@@ -7,7 +7,6 @@ use mathlib.Core.Option.{Option, none, some, Option·elim}
 use lib.Dec.{T, eqb}
 use Rattle.gfa_spec.specs.Bytes.{bytes, same, all, join}
 use Rattle.gfa_spec.specs.Reading.{segment, link, path, Read, refused, accepted, walk, parseLine, mapRead}
-use Rattle.gfa_spec.specs.Reading as reading
 use Rattle.gfa_spec.specs.Calls.{Outcome, answer}
 use Rattle.gfa_spec.specs.Services.{spellPath}
 use Rattle.gfa_spec.specs.Gfa1.{inClass, matches, isName, isSign, endsItem, holdsEnd, isSegmentName, isSequence, isOrientation, isIndex, isPosition, isCigar, isOverlap, isCharacter, afterSign, isInteger, areDigits, areScaled, isFloat, isPrinted, isHex, areNumbers, isArray, isTyped, isTag, areOverlaps, items, isItem, areItems, startsStep, walkSteps, isWalkStep, isWalk, columns, column, sortOf, lineSort, expressions, begins, fits, allowsUntagged, allows, allows10, brokenFrom, firstBroken, Visit, Record, itemVisit, walkVisit, recordOf, states, lacksComma, noCommaIn, noComma}

@@ -1,5 +1,5 @@
 -- What is read of a line with all its required columns does not depend on its tags, whether the line is allowed or not. Assumes nothing.
-use Prim.Native.Nat.{ℕ, suc, zero, _≤_, _<_}
+use Prim.Native.Nat.{ℕ, suc, _≤_, _<_}
 use native.Mathlib.Omega.{arith}
 use mathlib.Core.Bool.{false}
 use mathlib.Core.List.{List, [], _∷_, _++_, map, append-nil, map-append}
@@ -15,6 +15,7 @@ use Rattle.gfa_spec.specs.Gfa1Read.{pathRecord, stated, untagged, stated
 use Rattle.gfa_spec.proofs.Tests.{by-test}
 use Rattle.gfa_spec.proofs.Splitting.{split-between, split-some}
 use Rattle.gfa_spec.proofs.Gfa1.{fields-columns, parseAs, line-parse}
+use Rattle.gfa_spec.proofs.Each.{nth-front}
 
 -- ---- fields, and more fields behind them
 
@@ -22,13 +23,6 @@ use Rattle.gfa_spec.proofs.Gfa1.{fields-columns, parseAs, line-parse}
 by-read : {A P : Type 0} (r : Read A) → ((n : ℕ) → r ≡ refused n → P) → ((a : A) → r ≡ accepted a → P) → P
 by-read (refused n) stop go = stop n refl
 by-read (accepted a) stop go = go a refl
-
--- an element of the front
-nth-front : {A : Type 0} (k : ℕ) (xs ys : List A) (d : A) → k < length xs → nth k (xs ++ ys) d ≡ nth k xs d
-unfolding nth
-nth-front k [] ys d l = absurd (omega arith)
-nth-front zero (x ∷ xs) ys d l = refl
-nth-front (suc k) (x ∷ xs) ys d l = nth-front k xs ys d (omega arith)
 
 -- a field of the front
 field-front : (k : ℕ) (fs ts : List Part) → k < length fs → field k (fs ++ ts) ≡ field k fs

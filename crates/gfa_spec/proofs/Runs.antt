@@ -1,7 +1,7 @@
 -- Laws of runs: their counts, and that adjacent runs differ. Assumes nothing.
 use Prim.Native.Nat.{ℕ, suc, _+_, _-_, _≤_, zero-le, suc-le-suc}
 use native.Mathlib.Omega.{arith}
-use mathlib.Core.Bool.{true, false}
+use mathlib.Core.Bool.{Bool, true, false}
 use mathlib.Core.List.{List, [], _∷_, _++_, map}
 use mathlib.Core.Path.{_≡_, refl, sym, ap, _∙_}
 use lib.Dec.{eqb}
@@ -77,6 +77,20 @@ pub runs-separate : (steps : List Step) → Separate (runs steps)
 unfolding runs
 runs-separate [] = sep-none
 runs-separate (s ∷ steps) = extend-separate s (runs steps) (runs-separate steps)
+
+-- ---- pairs
+
+-- fewer than two elements have no pair
+pub pairs-none : {A : Type 0} (p : A → A → Bool) (xs : List A) → length xs ≤ 1 → pairs p xs ≡ 0
+unfolding pairs
+pairs-none p [] h = refl
+pairs-none p (x ∷ []) h = refl
+pairs-none p (x ∷ (y ∷ xs)) h = absurd (omega arith)
+
+-- an element before others
+pub pairs-cons : {A : Type 0} (p : A → A → Bool) (s t : A) (ts : List A) → pairs p (s ∷ (t ∷ ts)) ≡ bit (p s t) + pairs p (t ∷ ts)
+unfolding pairs
+pairs-cons p s t ts = refl
 
 -- ---- pairs of equal steps
 

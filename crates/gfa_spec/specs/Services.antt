@@ -22,10 +22,10 @@ badStep es (p ∷ ps) =
 -- ---- path k
 
 -- path k, counted from 0
-unfoldable pub pathAt : ℕ → List Path → Option Path
-pathAt k [] = none
-pathAt zero (p ∷ ps) = some p
-pathAt (suc k) (p ∷ ps) = pathAt k ps
+unfoldable pub nthPath : ℕ → List Path → Option Path
+nthPath k [] = none
+nthPath zero (p ∷ ps) = some p
+nthPath (suc k) (p ∷ ps) = nthPath k ps
 
 -- what is spelled is the answer; a bad step is refused as 18 or 19, with the place and length of its name
 unfoldable pub ofSpelt : ℕ → Spelt → Outcome
@@ -40,7 +40,7 @@ ofPath room es (some p) = ofSpelt room (spell complement (segments es) (p .steps
 -- the answer of a call, by what was read
 unfoldable pub spellEntries : ℕ → ℕ → Input → Outcome
 spellEntries k room (Input.refusal r) = Outcome.refusal r
-spellEntries k room (entries es) = ofPath room es (pathAt k (paths es))
+spellEntries k room (entries es) = ofPath room es (nthPath k (paths es))
 
 -- the service: a text, the number of a path, the length of the output buffer, and of the work area in words;
 -- refusals 1 to 17, then 21, then 18 and 19, then 22

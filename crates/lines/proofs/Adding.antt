@@ -38,7 +38,7 @@ use Rattle.lines.specs.Lines.{segsOf, linksOf, pathsOf, NewRow, Ready, E
 use Rattle.gfa_spec.proofs.Entries.{orientation-accepted}
 use Rattle.scan.proofs.Fields.{field-bytes}
 use Rattle.tables.proofs.Numbers.{found-known, found-new}
-use Rattle.work.proofs.Rows.{rows-length, Kept, only-none, only-put, only-then, only-wider, only-kept, kept-within, outside-less}
+use Rattle.work.proofs.Rows.{rows-length, KeptWords, only-none, only-put, only-then, only-wider, only-kept, kept-within, outside-less}
 use Rattle.lines.proofs.Room.{field-short, column-short, spent-none, spent-segment, spent-link, spent-path, path-spare}
 use Rattle.steps.proofs.StepFields.{checked-value, checked-refused, path-short, path-refused, path-accepted}
 use Rattle.tables.proofs.TableRows.{segment-kept, segment-row-kept, link-kept, link-row-kept, steps-kept, step-row-kept, path-kept, path-row-kept, segment-put, segment-row-put, link-put, link-row-put, path-put, path-row-put, record-put, three-words}
@@ -316,7 +316,7 @@ module _ {text work work' : List ℕ} {b : Bases} {n : Counts} {start size : ℕ
 -- ---- the line's entry
 
 -- what a new record says is kept where the words behind the line table are
-module _ {middle work' : List ℕ} (text : List ℕ) (b : Bases) (n m : Counts) (high : Kept (b .segs) (length middle) middle work') where
+module _ {middle work' : List ℕ} (text : List ℕ) (b : Bases) (n m : Counts) (high : KeptWords (b .segs) (length middle) middle work') where
   entry-kept : (r : Record) →
       (b .segs + 6 * n .segs + 6 ≤ b .links) × (b .links + 8 * n .links + 8 ≤ b .paths) × (b .paths + 5 * n .paths + 5 ≤ b .steps) × (b .steps + 3 * m .steps ≤ length middle) →
       NewRow text middle b n m r → (entryOf text work' b r ≡ entryOf text middle b r) × NewRow text work' b n m r

@@ -21,7 +21,7 @@ use Rattle.normalize_spec.specs.Folding.{taken}
 use Rattle.normalize_spec.specs.Links.{isRemoved}
 use Rattle.scan.specs.Places.{SameIs}
 use Rattle.work.specs.Rows.{span, Only, wordOf}
-use Rattle.work.proofs.Rows.{Kept, only-none, only-put, only-then, only-kept, kept-within, outside-less}
+use Rattle.work.proofs.Rows.{KeptWords, only-none, only-put, only-then, only-kept, kept-within, outside-less}
 use Rattle.work.proofs.Stores.{sets-here, sets-first}
 use Rattle.tables.specs.declared.tables.Bases.{Bases}
 use Rattle.tables.specs.declared.tables.Counts.{Counts}
@@ -150,7 +150,7 @@ module _ {text w : List ℕ} {b : Bases} {n : Counts} {g : Layout} (l : LinkWord
 
 -- ---- what is kept
 
-module _ {text w w' : List ℕ} {b : Bases} {n : Counts} {g : Layout} (k : Kept 0 (g .added) w w') where
+module _ {text w w' : List ℕ} {b : Bases} {n : Counts} {g : Layout} (k : KeptWords 0 (g .added) w w') where
   pub relinkable-stands : {m : Made} → length w' ≡ length w → Relinkable text w b n g m → Relinkable text w' b n g m
   relinkable-stands e s =
       record {
@@ -164,7 +164,7 @@ module _ {text w w' : List ℕ} {b : Bases} {n : Counts} {g : Layout} (k : Kept 
   marks-stand s q = let d = s .placed in marked-stands (g .folded) s k (omega arith) (omega arith) q
 
 -- the three words of link i, where they and the link are kept
-pub ends-kept : {text : List ℕ} {names : List (List ℕ)} {fs : List Segment} {w w' : List ℕ} {b : Bases} {g : Layout} {i : ℕ} → Kept (g .ends + 3 * i) (g .ends + 3 * i + 3) w w'
+pub ends-kept : {text : List ℕ} {names : List (List ℕ)} {fs : List Segment} {w w' : List ℕ} {b : Bases} {g : Layout} {i : ℕ} → KeptWords (g .ends + 3 * i) (g .ends + 3 * i + 3) w w'
     → linkNo text w' b i ≡ linkNo text w b i → EndsRow text names fs w b g i → EndsRow text names fs w' b g i
 ends-kept {g = g} {i = i} k l r =
     record {
@@ -186,7 +186,7 @@ module _ {text w w' : List ℕ} {b : Bases} {n : Counts} {g : Layout} {m : Made}
   put-only : Only (span (g .ends + 3 * i) (g .ends + 3 * i + 3) ∷ []) w w'
   put-only = rw e (only-put (r .from ∷ r .to ∷ r .gone ∷ []) w (g .ends + 3 * i))
 
-  put-kept : Kept 0 (g .added) w w'
+  put-kept : KeptWords 0 (g .added) w w'
   put-kept = let p = s .0 .source .placed in only-kept 0 (g .added) put-only (inl (omega arith), tt)
 
   put-long : length w' ≡ length w
@@ -262,7 +262,7 @@ module _ {text before : List ℕ} {b : Bases} {n : Counts} {g : Layout} {m : Mad
       }
 
   module _ {work : List ℕ} {removed i : ℕ} (s : Ending text before work b n g m removed i) where
-    ending-kept : Kept 0 (g .added) before work
+    ending-kept : KeptWords 0 (g .added) before work
     ending-kept = let p = s .relinkable .source .placed in only-kept 0 (g .added) (s .only) (inl (omega arith), tt)
 
     module _ {work' : List ℕ} {r : ℕ} (h : i < n .links) (q : EndsPut text work work' b n g m i r) where
@@ -270,7 +270,7 @@ module _ {text before : List ℕ} {b : Bases} {n : Counts} {g : Layout} {m : Mad
       src = s .relinkable .source
 
       -- the words before the ends of the links are as they were
-      later-kept : Kept 0 (g .added) work work'
+      later-kept : KeptWords 0 (g .added) work work'
       later-kept = let p = src .placed in only-kept 0 (g .added) (q .only) (inl (omega arith), tt)
 
       -- the link is as it was

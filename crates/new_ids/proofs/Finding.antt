@@ -10,7 +10,7 @@ use lib.ListN.{length, length-map}
 use Rattle.gfa_spec.specs.Bytes.{same, nth}
 use Rattle.gfa_spec.specs.Reading.{Segment}
 use Rattle.gfa_spec.specs.Records.{segmentNumber}
-use Rattle.gfa_spec.proofs.Each.{nth-map}
+use Rattle.gfa_spec.proofs.Each.{nth-map, nth-front}
 use Rattle.gfa_spec.proofs.Tests.{cond-ap, by-test}
 use Rattle.normalize_spec.specs.Folding.{New, taken}
 use Rattle.writers.specs.Writers.{Wrote}
@@ -29,7 +29,7 @@ use Rattle.tables.proofs.ByNumber.{segments-length, segments-nth}
 use Rattle.tables.proofs.Numbers.{found-at, found-nothing}
 use Rattle.normalize_tables.specs.declared.layout.Layout.{Layout}
 use Rattle.normalize_tables.specs.News.{newAt, newsAt, namesAt, placeOf}
-use Rattle.normalize_tables.proofs.Nodes.{nth-front, names-length, names-more}
+use Rattle.normalize_tables.proofs.Nodes.{names-length, names-more}
 use Rattle.new_ids.specs.declared.ids.Node.the-variants.{At, Nothing}
 use Rattle.new_ids.specs.Ids.{NodeIs}
 

@@ -18,7 +18,7 @@ use Rattle.tables.specs.declared.rows.SegmentWords.{SegmentWords}
 use Rattle.tables.specs.ByNumber.{bytesIn, SegmentIs}
 use Rattle.normalize_tables.specs.declared.layout.Layout.{Layout}
 use Rattle.normalize_tables.specs.declared.rows.NewSegmentWords.{NewSegmentWords}
-use Rattle.normalize_tables.specs.News.{segmentWords, idOf, newAt}
+use Rattle.normalize_tables.specs.News.{segmentWords, newIdOf, newAt}
 use Rattle.normalize_tables.specs.NewByNumber.{NewSegmentIs}
 
 -- the test that makes no sum
@@ -37,13 +37,13 @@ numbered-small first j e t = ltb-true (first + j) 18446744073709551615 (sym e �
 module _ (text work : List ℕ) (b : Bases) (g : Layout) (first j : ℕ) where
   -- a new segment that has a number
   pub numbered-id : first + j < largest64 → newAt text b g first work j .id ≡ decimal (first + j)
-  unfolding newAt idOf
+  unfolding newAt newIdOf
   numbered-id h = rw (lt-ltb (first + j) largest64 h)
 
   -- a new segment that has a name: that of its unit, its run length and its suffix
   pub named-id : largest64 ≤ first + j
       → newAt text b g first work j .id ≡ newName (newAt text b g first work j .unit) (newAt text b g first work j .count) (segmentWords work g j .suffix)
-  unfolding newAt idOf
+  unfolding newAt newIdOf
   named-id h = rw (le-ltb (first + j) largest64 h)
 
 -- the same, by the test and by the row
@@ -53,7 +53,7 @@ module _ (text work : List ℕ) (b : Bases) (g : Layout) (first j : ℕ) {t : Bo
 
   module _ {n : Counts} {r : NewSegmentWords} {s : SegmentWords} (k : t ≡ false) (w : NewSegmentIs text work b n g first j r) (u : SegmentIs text work b (r .unit .0) s) where
     pub new-name : newName (bytesIn text (s .id)) (r .count) (r .suffix) ≡ newAt text b g first work j .id
-    unfolding idOf
+    unfolding newIdOf
     new-name = sym (ap (λ x. x .id) (w .new) ∙ rw (← e, k, u .segment))
 
     -- its ID was written, or compared

@@ -20,9 +20,9 @@ use Rattle.tables.specs.ByNumber.{segmentNo, segmentsOf}
 use Rattle.tables.proofs.ByNumber.{TablesKept, segment-stands}
 use Rattle.normalize_tables.specs.declared.layout.Layout.{Layout}
 use Rattle.normalize_tables.specs.declared.rows.NewSegmentWords.{NewSegmentWords}
-use Rattle.normalize_tables.specs.News.{segmentWords, idOf, newAt, namesAt, Agree, Suffixed}
+use Rattle.normalize_tables.specs.News.{segmentWords, newIdOf, newAt, namesAt, Agree, Suffixed}
 use Rattle.normalize_tables.specs.NewByNumber.{NewSegmentPut, KeptTo, SegmentsKept, PathsKept}
-use Rattle.normalize_tables.proofs.Nodes.{nth-front, names-length, news-more, names-more}
+use Rattle.normalize_tables.proofs.Nodes.{names-length, news-more, names-more}
 use Rattle.normalize_tables.proofs.NewByNumber.{segments-words, steps-words, paths-words, unit-kept, count-kept, suffix-kept, before-kept}
 use Rattle.normalize_tables.proofs.NewsKept.{segment-rows-kept, new-kept, news-kept, names-kept}
 use Rattle.new_ids.proofs.Suffixes.{RowAdded, suffixed-number, suffixed-name}
@@ -31,6 +31,7 @@ use Rattle.new_segs.specs.Makes.{nextAt, madeAt, Making, SuffixFor, Want
 use Rattle.new_segs.proofs.Chaining.{last-kept, chained-kept, last-here, last-elsewhere}
 use Rattle.new_segs.proofs.Keeping.{of-text, low-stands, source-low}
 use Rattle.new_segs.proofs.Lookups.{unit-sequence}
+use Rattle.gfa_spec.proofs.Each.{nth-front}
 
 -- The words after new segment q, of a unit and a run length, was put behind the others.
 pub record Put (n : Counts) (g : Layout) (q unit count suffix : ℕ) (w w' : List ℕ) : Type 0 where
@@ -89,7 +90,7 @@ module _ {text w w' : List ℕ} {b : Bases} {n : Counts} {g : Layout} {first q u
 
   -- the new segment
   new-is : newAt text b g first w' q
-      ≡ record { unit = segmentNo text w b unit .id; count = count; id = idOf first q (segmentNo text w b unit .id) count suffix; sequence = repeat count (segmentNo text w b unit .sequence) }
+      ≡ record { unit = segmentNo text w b unit .id; count = count; id = newIdOf first q (segmentNo text w b unit .id) count suffix; sequence = repeat count (segmentNo text w b unit .sequence) }
   unfolding newAt
   new-is = rw (p .unit-is, p .count-is, p .suffix-is, segment-stands (x .making .source .readable) kept unit (x .there))
 

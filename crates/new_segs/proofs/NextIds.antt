@@ -16,7 +16,7 @@ use Rattle.tables.specs.declared.tables.Bases.{Bases}
 use Rattle.tables.specs.declared.tables.Counts.{Counts}
 use Rattle.tables.specs.ByNumber.{segmentsOf}
 use Rattle.normalize_tables.specs.declared.layout.Layout.{Layout}
-use Rattle.normalize_tables.specs.News.{firstOf, firstNumber, idOf}
+use Rattle.normalize_tables.specs.News.{firstOf, firstNumber, newIdOf}
 use Rattle.new_ids.specs.Ids.{Named, SuffixIs}
 use Rattle.new_segs.specs.Makes.{nextAt, Making, SuffixFor}
 
@@ -57,7 +57,7 @@ module _ {text work : List ℕ} {b : Bases} {n : Counts} {g : Layout} {first q :
   number-suffix : {unit count : ℕ} → first + q < largest64 → SuffixFor text work b n g first q unit count 0
   number-suffix h =
       record {
-        id = rw next-is (unfold usableFrom idOf in rw (lt-ltb (first + q) largest64 h) (unfold newId in refl));
+        id = rw next-is (unfold usableFrom newIdOf in rw (lt-ltb (first + q) largest64 h) (unfold newId in refl));
         named = λ l. absurd (omega arith);
         few = omega arith;
       }
@@ -65,7 +65,7 @@ module _ {text work : List ℕ} {b : Bases} {n : Counts} {g : Layout} {first q :
   name-suffix : {unit count r : ℕ} → largest64 ≤ first + q → SuffixIs text work b n g first q unit count r → SuffixFor text work b n g first q unit count r
   name-suffix h s =
       record {
-        id = rw next-is (unfold usableFrom idOf in rw (not-less (first + q) largest64 h) (unfold newId in sym (s .free)));
+        id = rw next-is (unfold usableFrom newIdOf in rw (not-less (first + q) largest64 h) (unfold newId in sym (s .free)));
         named = λ l. s;
         few = s .few;
       }

@@ -14,7 +14,7 @@ use Rattle.tables.specs.ByNumber.{segmentNo, segmentsOf}
 use Rattle.normalize_tables.specs.declared.layout.Layout.{Layout}
 use Rattle.normalize_tables.specs.declared.rows.NewSegmentWords.{NewSegmentWords}
 use Rattle.normalize_tables.specs.Layout.{Source}
-use Rattle.normalize_tables.specs.News.{segmentWords, firstNumber, idOf, newAt, newsAt, namesAt, Agree, Suffixed}
+use Rattle.normalize_tables.specs.News.{segmentWords, firstNumber, newIdOf, newAt, newsAt, namesAt, Agree, Suffixed}
 use Rattle.normalize_tables.specs.NewByNumber.{SegmentRoom, SegmentRows, KeptTo, StepsKept, PathsKept}
 use Rattle.new_ids.specs.Ids.{SuffixIs}
 use Rattle.new_segs.specs.Chains.{LastOn, Chained, MadeIs}
@@ -46,7 +46,7 @@ pub record Making (text work : List ℕ) (b : Bases) (n : Counts) (g : Layout) (
 
 -- The suffix of new segment q, of a unit and a run length: 0 where its ID is a number, else the first that is free.
 pub record SuffixFor (text work : List ℕ) (b : Bases) (n : Counts) (g : Layout) (first q unit count r : ℕ) : Type 0 where
-  pub id : idOf first q (segmentNo text work b unit .id) count r
+  pub id : newIdOf first q (segmentNo text work b unit .id) count r
       ≡ newId (namesAt text work b n g first q) (segmentNo text work b unit .id) count (usable (nextAt (segmentsOf text work b n) q))
   pub named : largest64 ≤ first + q → SuffixIs text work b n g first q unit count r
   pub few : r ≤ n .segs + q

@@ -19,7 +19,7 @@ use Rattle.nodes.specs.Table.{nodesEnd, nodeNo, NodeRead}
 use Rattle.node_lines.specs.declared.buckets.Group.{Group}
 use Rattle.node_lines.specs.declared.buckets.Bucket.{Bucket}
 use Rattle.ranks.specs.Ranking.{wordAt, numsAt}
-use Rattle.node_lines.specs.Groups.{buckets, bucketOf, Rising, Numbered, longOf, groupLinks, GroupIs, BucketIs, Sized, BucketsIs}
+use Rattle.node_lines.specs.Groups.{buckets, bucketOf, Rising, RowNumbers, longOf, groupLinks, GroupIs, BucketIs, Sized, BucketsIs}
 use Rattle.tally.proofs.PathCounting.{sum-last}
 use Rattle.ranks.proofs.Merges.{nums-snoc, nums-split, nums-cons, nums-none}
 use Rattle.node_lines.proofs.Lengths.{buckets-group}
@@ -28,7 +28,7 @@ use Rattle.node_lines.proofs.Lengths.{buckets-group}
 
 -- The state at j: the numbers from i up to j have one length.
 pub record Grouping (work : List ℕ) (table nums m i long links j : ℕ) : Type 0 where
-  pub numbered : Numbered work table nums m
+  pub numbered : RowNumbers work table nums m
   pub start : i < m
   pub is : long ≡ longOf work table nums i
   pub low : i ≤ j
@@ -46,11 +46,11 @@ links-more work table nums i j h =
     rw (e, nums-snoc work (nums + i) (j - i), f) (sum-last (λ k. nodeNo work table k .links) (numsAt work (nums + i) (j - i)) (getD work (nums + j) 0))
 
 -- number k is that of a row
-pub number-room : {work : List ℕ} {table nums m v k : ℕ} → Numbered work table nums m → k < m → v ≡ getD work (nums + k) 0 → nodesEnd table (v + 1) ≤ length work
+pub number-room : {work : List ℕ} {table nums m v k : ℕ} → RowNumbers work table nums m → k < m → v ≡ getD work (nums + k) 0 → nodesEnd table (v + 1) ≤ length work
 number-room {k = k} s h e = rw e (s .rows k h)
 
 module _ {work : List ℕ} {table nums m i : ℕ} where
-  pub grouping-start : {v : ℕ} {w : NodeWords} → Numbered work table nums m → i < m → v ≡ getD work (nums + i) 0 → NodeRead work table v w → Grouping work table nums m i (w .long) 0 i
+  pub grouping-start : {v : ℕ} {w : NodeWords} → RowNumbers work table nums m → i < m → v ≡ getD work (nums + i) 0 → NodeRead work table v w → Grouping work table nums m i (w .long) 0 i
   unfolding longOf
   grouping-start {v} {w} s h f e =
       record {
@@ -168,7 +168,7 @@ sized-links node z (k ∷ ns) = rw (z .links k, sized-links node z ns)
 
 -- The state at i: the buckets of the numbers before it are written.
 pub record Bucketing (limit : ℕ) (first : List ℕ) (at : ℕ) (work : List ℕ) (table nums m : ℕ) (out : List ℕ) (next i : ℕ) : Type 0 where
-  pub numbered : Numbered work table nums m
+  pub numbered : RowNumbers work table nums m
   pub high : i ≤ m
   pub place : next ≤ limit
   pub long : length out ≡ length first
@@ -177,7 +177,7 @@ pub record Bucketing (limit : ℕ) (first : List ℕ) (at : ℕ) (work : List �
   pub rising : (node : ℕ → Node) → Rising (map node (numsAt work nums m)) → Rising (map node (numsAt work (nums + i) (m - i)))
 
 module _ {limit at : ℕ} {first work : List ℕ} {table nums m : ℕ} where
-  pub bucketing-start : (at ≤ limit) × Numbered work table nums m → Bucketing limit first at work table nums m first at 0
+  pub bucketing-start : (at ≤ limit) × RowNumbers work table nums m → Bucketing limit first at work table nums m first at 0
   bucketing-start h =
       let a : nums + 0 ≡ nums = omega arith in
       let c : m - 0 ≡ m = omega arith in

@@ -28,7 +28,7 @@ Rising [] = Unit {0}
 Rising (a ∷ xs) = Each (λ b. a .sequenceLen ≤ b .sequenceLen) xs × Rising xs
 
 -- The m numbers from the word `nums` on are those of rows.
-pub record Numbered (work : List ℕ) (table nums m : ℕ) : Type 0 where
+pub record RowNumbers (work : List ℕ) (table nums m : ℕ) : Type 0 where
   pub room : nums + m ≤ length work
   pub few : m ≤ 2097152
   pub rows : (k : ℕ) → k < m → nodesEnd table (getD work (nums + k) 0 + 1) ≤ length work

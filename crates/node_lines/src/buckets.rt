@@ -2,7 +2,7 @@
 ghost use Prim.Native.Nat.{_+_, _≤_, _<_};
 ghost use Rattle.gfa_spec.specs.Bytes.{endLine};
 ghost use Rattle.writers.specs.Writers.{Wrote};
-ghost use Rattle.node_lines.specs.Groups.{bucketOf, Numbered, GroupIs, BucketIs, BucketsIs};
+ghost use Rattle.node_lines.specs.Groups.{bucketOf, RowNumbers, GroupIs, BucketIs, BucketsIs};
 use nodes::nodes::node_at;
 use work::work::word;
 use writers::bytes::put_byte;
@@ -44,7 +44,7 @@ pub fn put_bucket_line(
 
 // The group that starts at number `i` of `m` from the word `nums` on.
 pub fn group_at(work: &[u32], table: usize, nums: usize, m: usize, i: usize) -> Group
-    requires { ⌜ Numbered (now work) table nums m × (i < m) ⌝ }
+    requires { ⌜ RowNumbers (now work) table nums m × (i < m) ⌝ }
     ensures { λ r. ⌜ GroupIs (now (work .entry)) table nums m i r ⌝ }
 {
     let long = node_at(work, table, word(work, nums + i)).long;
@@ -80,7 +80,7 @@ pub fn put_bucket(
     m: usize,
     i: usize,
 ) -> Bucket
-    requires { ⌜ Numbered (now work) table nums m × (i < m) ⌝ }
+    requires { ⌜ RowNumbers (now work) table nums m × (i < m) ⌝ }
     ensures { λ r. ⌜ BucketIs limit (now (out .entry)) at (now (work .entry)) table nums m i (now (out .exit)) r ⌝ }
 {
     let g = group_at(work, table, nums, m, i);
@@ -98,7 +98,7 @@ pub fn put_buckets(
     nums: usize,
     m: usize,
 ) -> usize
-    requires { ⌜ (at ≤ limit) × Numbered (now work) table nums m ⌝ }
+    requires { ⌜ (at ≤ limit) × RowNumbers (now work) table nums m ⌝ }
     ensures { λ r. ⌜ BucketsIs limit (now (out .entry)) at (now (work .entry)) table nums m (now (out .exit)) r ⌝ }
 {
     let mut next = at;

@@ -11,7 +11,7 @@ use Rattle.gfa_spec.specs.Bytes.{any, count, keep}
 use Rattle.gfa_spec.specs.Reading.{Step}
 use Rattle.gfa_spec.specs.Runs.{Run, runs, extend, isRepeat, pairs, bit, sameStep}
 use Rattle.gfa_spec.proofs.Tests.{by-test}
-use Rattle.gfa_spec.proofs.Runs.{same-name}
+use Rattle.gfa_spec.proofs.Runs.{same-name, extend-first}
 use Rattle.report_spec.specs.Nodes.{on, longest as longestOf}
 use Rattle.nodes.specs.declared.counters.Counter.{Counter}
 use Rattle.nodes.specs.Counters.{isLonger, countedOf, goesOn, finish}
@@ -24,12 +24,6 @@ either false = refl
 -- a number that is covered does not matter to the larger
 covered : (n a b : ℕ) → a ≤ n → ltb n (max a b) ≡ ltb n b
 covered n a b h = by-test (ltb n b) (λ e. rw e (lt-ltb n (max a b) (omega (arith, ltb-true n b e)))) (λ e. rw e (le-ltb n (max a b) (omega (arith, ltb-false n b e))))
-
--- the first run begins with the first step
-pub first-run : (s : Step) (rs : List Run) → (n : ℕ) × (more : List Run) × (extend s rs ≡ record { step = s; count = suc n } ∷ more)
-unfolding extend
-first-run s [] = (0, [], refl)
-first-run s (r ∷ rs) = by-test (sameStep s (r .step)) (λ e. (r .count, rs, rw e)) (λ e. (0, r ∷ rs, rw e))
 
 module _ (node : List ℕ) where
   -- ---- what runs add
@@ -204,7 +198,7 @@ module _ (node : List ℕ) where
       by-test (on node s)
       (λ f. record { visits = rw f; some = rw f; equal = rw f; adjacent = rw f })
       (λ f. record { visits = rw f; some = rw f; equal = rw f; adjacent = rw f })
-  summed (s ∷ (t ∷ ts)) = go (summed (t ∷ ts)) (first-run t (runs ts))
+  summed (s ∷ (t ∷ ts)) = go (summed (t ∷ ts)) (extend-first t (runs ts))
     where
       go : Summed (t ∷ ts) (extend t (runs ts)) → (n : ℕ) × (more : List Run) × (extend t (runs ts) ≡ record { step = t; count = suc n } ∷ more) → Summed (s ∷ (t ∷ ts)) (extend s (extend t (runs ts)))
       go m (n, rs, e) = rw e (summed-more s t ts n rs (rw e at m))

@@ -35,8 +35,8 @@ of-each p f g h k e =
 -- ---- weights
 
 -- pairs with one more: which is there
-Marks : ℕ → ℕ → Type 0
-Marks a b =
+OneMore : ℕ → ℕ → Type 0
+OneMore a b =
     (f g h k : Bool) → markedOf (code f g h k) a b ≡ code (f || same (43 ∷ 43 ∷ []) (a ∷ b ∷ [])) (g || same (43 ∷ 45 ∷ []) (a ∷ b ∷ [])) (h || same (45 ∷ 43 ∷ []) (a ∷ b ∷ [])) (k || same (45 ∷ 45 ∷ []) (a ∷ b ∷ []))
 
 -- computed for the four pairs
@@ -45,8 +45,8 @@ right a b f g h k =
     eqb (markedOf (code f g h k) a b)
     (code (f || same (43 ∷ 43 ∷ []) (a ∷ b ∷ [])) (g || same (43 ∷ 45 ∷ []) (a ∷ b ∷ [])) (h || same (45 ∷ 43 ∷ []) (a ∷ b ∷ [])) (k || same (45 ∷ 45 ∷ []) (a ∷ b ∷ [])))
 
-marks-computed : (a b : ℕ) → each (right a b) ≡ true → Marks a b
-unfolding Marks right
+marks-computed : (a b : ℕ) → each (right a b) ≡ true → OneMore a b
+unfolding OneMore right
 marks-computed a b e f g h k = eqb-true (markedOf (code f g h k) a b)
     (code (f || same (43 ∷ 43 ∷ []) (a ∷ b ∷ [])) (g || same (43 ∷ 45 ∷ []) (a ∷ b ∷ [])) (h || same (45 ∷ 43 ∷ []) (a ∷ b ∷ [])) (k || same (45 ∷ 45 ∷ []) (a ∷ b ∷ [])))
     (of-each (right a b) f g h k e)
@@ -56,11 +56,11 @@ pub or-false : (t : Bool) → (t || false) ≡ t
 or-false true = refl
 or-false false = refl
 
-marks-none : (a b : ℕ) → weightOf a b ≡ 0 → same (43 ∷ 43 ∷ []) (a ∷ b ∷ []) ≡ false → same (43 ∷ 45 ∷ []) (a ∷ b ∷ []) ≡ false → same (45 ∷ 43 ∷ []) (a ∷ b ∷ []) ≡ false → same (45 ∷ 45 ∷ []) (a ∷ b ∷ []) ≡ false → Marks a b
-unfolding Marks markedOf
+marks-none : (a b : ℕ) → weightOf a b ≡ 0 → same (43 ∷ 43 ∷ []) (a ∷ b ∷ []) ≡ false → same (43 ∷ 45 ∷ []) (a ∷ b ∷ []) ≡ false → same (45 ∷ 43 ∷ []) (a ∷ b ∷ []) ≡ false → same (45 ∷ 45 ∷ []) (a ∷ b ∷ []) ≡ false → OneMore a b
+unfolding OneMore markedOf
 marks-none a b w p q r s f g h k = rw (w, p, q, r, s, or-false f, or-false g, or-false h, or-false k)
 
-marks-first : (a b : ℕ) → (a ≡ 43 → ⊥) → (a ≡ 45 → ⊥) → Marks a b
+marks-first : (a b : ℕ) → (a ≡ 43 → ⊥) → (a ≡ 45 → ⊥) → OneMore a b
 unfolding weightOf same
 marks-first a b n m =
     let w : weightOf a b ≡ 0 = rw (ne-eqb a 43 n, ne-eqb a 45 m) in
@@ -68,7 +68,7 @@ marks-first a b n m =
     let q = ne-eqb 45 a (λ z. m (sym z)) in
     marks-none a b w (rw p) (rw p) (rw q) (rw q)
 
-marks-second : (a b : ℕ) → (b ≡ 43 → ⊥) → (b ≡ 45 → ⊥) → Marks a b
+marks-second : (a b : ℕ) → (b ≡ 43 → ⊥) → (b ≡ 45 → ⊥) → OneMore a b
 unfolding weightOf same
 marks-second a b n m =
     let w : weightOf a b ≡ 0 = rw (ne-eqb b 43 n, ne-eqb b 45 m) (zeros (eqb a 43) (eqb a 45)) in
@@ -85,26 +85,26 @@ marks-second a b n m =
     no true = refl
     no false = refl
 
-pp : Marks 43 43
+pp : OneMore 43 43
 unfolding each both right markedOf code weightOf same bit
 pp = marks-computed 43 43 refl
 
-pm : Marks 43 45
+pm : OneMore 43 45
 unfolding each both right markedOf code weightOf same bit
 pm = marks-computed 43 45 refl
 
-mp : Marks 45 43
+mp : OneMore 45 43
 unfolding each both right markedOf code weightOf same bit
 mp = marks-computed 45 43 refl
 
-mm : Marks 45 45
+mm : OneMore 45 45
 unfolding each both right markedOf code weightOf same bit
 mm = marks-computed 45 45 refl
 
-marks : (a b : ℕ) → Marks a b
+marks : (a b : ℕ) → OneMore a b
 marks a b = go (ℕ-discrete a 43) (ℕ-discrete a 45) (ℕ-discrete b 43) (ℕ-discrete b 45)
   where
-    go : Dec (a ≡ 43) → Dec (a ≡ 45) → Dec (b ≡ 43) → Dec (b ≡ 45) → Marks a b
+    go : Dec (a ≡ 43) → Dec (a ≡ 45) → Dec (b ≡ 43) → Dec (b ≡ 45) → OneMore a b
     go (no n) (no m) r s = marks-first a b n m
     go (no n) (yes e) (no p) (no q) = marks-second a b p q
     go (no n) (yes e) (no p) (yes f) = rw (e, f) mm
@@ -121,7 +121,7 @@ any-last p xs x = rw (any-append, or-false (p x))
 
 -- with one link more
 pub bits-more : (ls : List Link) (l : Link) → markedOf (bitsOf ls) (l .fromOrientation) (l .toOrientation) ≡ bitsOf (ls ++ (l ∷ []))
-unfolding bitsOf isPair Marks
+unfolding bitsOf isPair OneMore
 bits-more ls l =
     rw (any-last (isPair 43 43) ls l, any-last (isPair 43 45) ls l, any-last (isPair 45 43) ls l, any-last (isPair 45 45) ls l)
     (marks (l .fromOrientation) (l .toOrientation) (any (isPair 43 43) ls) (any (isPair 43 45) ls) (any (isPair 45 43) ls) (any (isPair 45 45) ls))

@@ -8,7 +8,7 @@ use mathlib.Core.Path.{_≡_, refl, _∙_}
 use lib.ListN.{length, getD}
 use lib.Seq.{sets, length-sets}
 use Rattle.work.specs.Rows.{span, Only}
-use Rattle.work.proofs.Rows.{Kept, only-put, only-then, only-wider, only-kept, kept-within, outside-less}
+use Rattle.work.proofs.Rows.{KeptWords, only-put, only-then, only-wider, only-kept, kept-within, outside-less}
 use Rattle.work.proofs.Stores.{sets-here, sets-first}
 use Rattle.nodes.specs.declared.counters.Counter.{Counter}
 use Rattle.nodes.specs.declared.nodes.NodeWords.{NodeWords}
@@ -18,13 +18,13 @@ use Rattle.nodes.specs.Table.{nodesEnd, nodeNo, counterNo, namesTo, RowP
 -- ---- rows that stand
 
 module _ {w w' : List ℕ} (table k : ℕ) where
-  node-kept : Kept (nodesEnd table k) (nodesEnd table k + 6) w w' → nodeNo w' table k ≡ nodeNo w table k
+  node-kept : KeptWords (nodesEnd table k) (nodesEnd table k + 6) w w' → nodeNo w' table k ≡ nodeNo w table k
   unfolding nodeNo
   node-kept h =
       let word : (d : ℕ) → d < 6 → getD w' (table + 14 * k + d) 0 ≡ getD w (table + 14 * k + d) 0 = λ d l. h .word (table + 14 * k + d) (omega arith) (omega arith) in
       rw (h .word (table + 14 * k) (omega arith) (omega arith), word 1 (omega arith), word 2 (omega arith), word 3 (omega arith), word 4 (omega arith), word 5 (omega arith))
 
-  counter-kept : Kept (nodesEnd table k + 6) (nodesEnd table (k + 1)) w w' → counterNo w' table k ≡ counterNo w table k
+  counter-kept : KeptWords (nodesEnd table k + 6) (nodesEnd table (k + 1)) w w' → counterNo w' table k ≡ counterNo w table k
   unfolding counterNo
   counter-kept h =
       let word : (d : ℕ) → 6 ≤ d → d < 14 → getD w' (table + 14 * k + d) 0 ≡ getD w (table + 14 * k + d) 0 = λ d a l. h .word (table + 14 * k + d) (omega arith) (omega arith) in
@@ -40,7 +40,7 @@ module _ {w w' : List ℕ} (table k : ℕ) where
       )
 
 -- the table is kept
-module _ {w w' : List ℕ} {table m : ℕ} (h : Kept table (nodesEnd table m) w w') (k : ℕ) (l : k < m) where
+module _ {w w' : List ℕ} {table m : ℕ} (h : KeptWords table (nodesEnd table m) w w') (k : ℕ) (l : k < m) where
   pub node-stands : nodeNo w' table k ≡ nodeNo w table k
   node-stands = node-kept table k (kept-within (nodesEnd table k) (nodesEnd table k + 6) h (omega arith) (omega arith))
 
@@ -56,7 +56,7 @@ names-same text w w' table (suc n) same = rw (names-same text w w' table n (λ k
 -- ---- a row that is stored
 
 module _ {w w' : List ℕ} {table k : ℕ} {a : NodeWords} {c : Counter} (p : RowPut w w' table k a c) where
-  side : (j : ℕ) → (j ≡ k → ⊥) → Dec (k < j) → Kept (nodesEnd table j) (nodesEnd table (j + 1)) w w'
+  side : (j : ℕ) → (j ≡ k → ⊥) → Dec (k < j) → KeptWords (nodesEnd table j) (nodesEnd table (j + 1)) w w'
   side j d (yes g) = only-kept (nodesEnd table j) (nodesEnd table (j + 1)) (p .only) (inr (omega arith), tt)
   side j d (no g) = only-kept (nodesEnd table j) (nodesEnd table (j + 1)) (p .only) (inl (omega arith), tt)
 

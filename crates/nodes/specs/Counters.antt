@@ -9,7 +9,7 @@ use lib.ListN.{length}
 use Rattle.gfa_spec.specs.Bytes.{any, count, join, isEmpty}
 use Rattle.gfa_spec.specs.Reading.{Path}
 use Rattle.gfa_spec.specs.Runs.{Run, pairs, bit, sameStep}
-use Rattle.gfa_spec.specs.Services.{pathAt}
+use Rattle.gfa_spec.specs.Services.{nthPath}
 use Rattle.report_spec.specs.Nodes.{on, visits as visitsOf, repeatsAt, longest as longestOf, pathName, firstWith, total}
 use Rattle.nodes.specs.declared.counters.Counter.{Counter}
 
@@ -62,10 +62,10 @@ finish node path c (r ∷ rs) = finish node path (cond (on node (r .step)) (coun
 -- the name of the path whose number plus one is given, none for 0
 unfoldable pub named : ℕ → List Path → List ℕ
 named zero ps = []
-named (suc k) ps = Option·elim (pathAt k ps) [] pathName
+named (suc k) ps = Option·elim (nthPath k ps) [] pathName
 
 -- The counters of a node once these paths are counted.
-pub record Counted (node : List ℕ) (ps : List Path) (c : Counter) : Type 0 where
+pub record CounterOf (node : List ℕ) (ps : List Path) (c : Counter) : Type 0 where
   pub visits : c .visits ≡ total (visitsOf node) ps
   pub paths : c .paths ≡ count (λ p. any (on node) (p .steps)) ps
   pub last : c .last ≤ length ps

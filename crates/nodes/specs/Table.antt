@@ -22,7 +22,7 @@ use Rattle.nodes.specs.declared.nodes.NodeWords.{NodeWords}
 use Rattle.nodes.specs.declared.nodes.TableRow.{TableRow}
 use Rattle.nodes.specs.declared.nodes.TableRow.the-variants.{At, Nowhere}
 use Rattle.nodes.specs.declared.segment.Known.{Known}
-use Rattle.nodes.specs.Counters.{Counted}
+use Rattle.nodes.specs.Counters.{CounterOf}
 
 -- ---- a row
 
@@ -161,7 +161,7 @@ pub record LinkCounts (text : List ℕ) (ss : List Segment) (ls : List Link) (w 
 
 -- The counters of the first n nodes, once these paths are counted.
 pub record CountRows (text : List ℕ) (ps : List Path) (work : List ℕ) (table n : ℕ) : Type 0 where
-  pub row : (k : ℕ) → k < n → Counted (nameNo text work table k) ps (counterNo work table k)
+  pub row : (k : ℕ) → k < n → CounterOf (nameNo text work table k) ps (counterNo work table k)
 
 -- No two of the first n nodes have one name.
 pub record Differ (text work : List ℕ) (table n : ℕ) : Type 0 where

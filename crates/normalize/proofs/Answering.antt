@@ -1,15 +1,12 @@
 -- What a normalization answers: a refusal, or the text with its statistics. Assumes nothing.
 use Prim.Native.Nat.{ℕ, _+_, _≤_, _<_}
-use native.Mathlib.Omega.{arith}
 use mathlib.Core.List.{List, _++_}
-use mathlib.Core.Path.{_≡_, refl, sym, ap, _∙_}
+use mathlib.Core.Path.{_≡_}
 use lib.ListN.{length, drop}
 use borrow.Author.Tests.{lt-ltb, le-ltb}
 use Rattle.gfa_spec.specs.Calls.{Refusal, plainly}
 use Rattle.normalize_spec.specs.Counting.{Stats}
-use Rattle.normalize_spec.specs.Services.{Normal, normal, fitted}
-use Rattle.writers.specs.Writers.{Wrote}
-use Rattle.writers.proofs.Writing.{measured, measured-long, written}
+use Rattle.normalize_spec.specs.Services.{Normal, normal, normalFitted}
 use Rattle.reader.specs.Served.{answerOf, outputOf}
 use Rattle.normalize.specs.declared.returning.NormalizeSelfLoopsResult.{NormalizeSelfLoopsResult}
 use Rattle.normalize.specs.Counters.{noCounters, counters}
@@ -29,12 +26,12 @@ gives bs st o e f s u = rw e (record { answer = f; stats = s; output = u })
 
 -- no room for the answer
 pub no-room : {out out' : List ℕ} {r : NormalizeSelfLoopsResult} (bs : List ℕ) (st : Stats) → length out < length bs
-    → r .answer ≡ record { number = 22; line = 0; from = 0; length = 0 } → counters (r .stats) ≡ noCounters → out' ≡ out → NormalAnswered out out' r (fitted (length out) (normal bs st))
-unfolding fitted
-no-room {out} bs st l f s u = refuses (plainly 22) (fitted (length out) (normal bs st)) (rw (lt-ltb (length out) (length bs) l)) (unfold plainly in f) s u
+    → r .answer ≡ record { number = 22; line = 0; from = 0; length = 0 } → counters (r .stats) ≡ noCounters → out' ≡ out → NormalAnswered out out' r (normalFitted (length out) (normal bs st))
+unfolding normalFitted
+no-room {out} bs st l f s u = refuses (plainly 22) (normalFitted (length out) (normal bs st)) (rw (lt-ltb (length out) (length bs) l)) (unfold plainly in f) s u
 
 -- room for it
 pub room : {out out' : List ℕ} {r : NormalizeSelfLoopsResult} (bs : List ℕ) (st : Stats) → length bs ≤ length out
-    → r .answer ≡ record { number = 0; line = 0; from = 0; length = length bs } → counters (r .stats) ≡ st → out' ≡ bs ++ drop (length bs) out → NormalAnswered out out' r (fitted (length out) (normal bs st))
-unfolding fitted
-room {out} bs st l f s u = gives bs st (fitted (length out) (normal bs st)) (rw (le-ltb (length out) (length bs) l)) f s u
+    → r .answer ≡ record { number = 0; line = 0; from = 0; length = length bs } → counters (r .stats) ≡ st → out' ≡ bs ++ drop (length bs) out → NormalAnswered out out' r (normalFitted (length out) (normal bs st))
+unfolding normalFitted
+room {out} bs st l f s u = gives bs st (normalFitted (length out) (normal bs st)) (rw (le-ltb (length out) (length bs) l)) f s u

@@ -1,10 +1,10 @@
 -- Demand 3 at the service: what an answered call keeps, and what two of them have in common. Assumes nothing.
-use Prim.Native.Nat.{ℕ, _≤_}
+use Prim.Native.Nat.{ℕ}
 use native.Mathlib.Omega.{arith}
 use mathlib.Core.Bool.{true}
-use mathlib.Core.List.{List, _++_}
-use mathlib.Core.Path.{_≡_, refl, sym, ap, _∙_}
-use lib.ListN.{length, take, drop, replicate}
+use mathlib.Core.List.{List}
+use mathlib.Core.Path.{_≡_, refl, ap, _∙_}
+use lib.ListN.{length, take, replicate}
 use lib.Seq.{take-append-seam}
 use Rattle.normalize_spec.specs.Counting.{Stats}
 use Rattle.normalize_spec.specs.Services.{Normal, normal, normalize}

@@ -1,33 +1,31 @@
 -- Rules 4 to 7 put together: what the passes left in the tables is the definition's rewritten text, and their counts its statistics. Assumes nothing.
 use Prim.Native.Nat.{ℕ, _+_, _*_, _≤_, _<_}
 use native.Mathlib.Omega.{arith}
-use mathlib.Core.Bool.{Bool, true, not}
-use mathlib.Core.List.{List, [], _∷_, map}
-use mathlib.Core.Logic.{inl, inr}
-use mathlib.Core.Path.{_≡_, refl, sym, ap, _∙_}
+use mathlib.Core.Bool.{Bool, true}
+use mathlib.Core.List.{List, map}
+use mathlib.Core.Logic.{inl}
+use mathlib.Core.Path.{_≡_, sym, ap, _∙_}
 use lib.ListN.{length}
-use Rattle.gfa_spec.specs.Bytes.{any, count, keep, sum, distinct}
+use Rattle.gfa_spec.specs.Bytes.{count, sum, distinct}
 use Rattle.gfa_spec.specs.Reading.{Entry, Segment}
-use Rattle.gfa_spec.specs.Records.{segments, links, paths, isSelfLink}
+use Rattle.gfa_spec.specs.Records.{links, paths, isSelfLink}
 use Rattle.gfa_spec.specs.Runs.{pairs}
 use Rattle.normalize_spec.specs.Folding.{isFolded, folded, sameNewNode, sameNewStep, transform}
 use Rattle.normalize_spec.specs.Links.{isRemoved, kept, added}
 use Rattle.normalize_spec.specs.Writing.{rewritten}
 use Rattle.normalize_spec.specs.Counting.{unchanged, rewrittenStats}
-use Rattle.normalize_spec.specs.Services.{normal, fitted}
-use Rattle.work.specs.Rows.{rowsAt, span, Only}
-use Rattle.work.proofs.Rows.{Kept, only-kept, kept-within, rows-length}
+use Rattle.normalize_spec.specs.Services.{normal, normalFitted}
+use Rattle.work.proofs.Rows.{KeptWords, only-kept, rows-length}
 use Rattle.writers.proofs.Writing.{measured, measured-long, written}
 use Rattle.runs.specs.declared.counts.Pairs.{Pairs}
 use Rattle.tables.specs.declared.tables.Bases.{Bases}
 use Rattle.tables.specs.declared.tables.Counts.{Counts}
-use Rattle.tables.specs.Segments.{segmentsAt}
 use Rattle.normalize_tables.specs.declared.layout.Layout.{Layout}
 use Rattle.normalize_tables.specs.declared.layout.Made.{Made}
 use Rattle.normalize_tables.specs.Layout.{Source}
 use Rattle.normalize_tables.specs.Marks.{Marked}
-use Rattle.normalize_tables.specs.News.{newAt, newsAt, namesAt, newPathsAt, keyAt, keysAt}
-use Rattle.normalize_tables.specs.Rewritten.{NewRows, Folded, Relinked}
+use Rattle.normalize_tables.specs.News.{newAt, newsAt, namesAt, keyAt, keysAt}
+use Rattle.normalize_tables.specs.Rewritten.{Folded, Relinked}
 use Rattle.normalize_tables.proofs.Sources.{standing, source-stands, marked-stands}
 use Rattle.normalize_tables.proofs.Nodes.{names-length}
 use Rattle.normalize_tables.proofs.NewsStand.{new-rows-kept, paths-kept, front-kept, source-kept, news-kept, names-kept}
@@ -58,7 +56,7 @@ module _ {text w : List ℕ} {b : Bases} {n : Counts} {g : Layout} {m : Made} {e
       → r .answer ≡ record { number = 0; line = 0; from = 0; length = need } → counters (r .stats) ≡ counters stats → WriteIs text w b n g m extra stats out out' r
   write-all {out'} l v f c = record { writes = λ fs q. fits fs q }
     where
-      fits : (fs : List Segment) → Relinked text w b n g fs m extra → NormalAnswered out out' r (fitted (length out) (normal (rewrittenFrom text w b n g fs m extra) (counters stats)))
+      fits : (fs : List Segment) → Relinked text w b n g fs m extra → NormalAnswered out out' r (normalFitted (length out) (normal (rewrittenFrom text w b n g fs m extra) (counters stats)))
       fits fs q =
           let long : need ≡ length (rewrittenFrom text w b n g fs m extra) = measured (h .wrote fs q) l in
           room (rewrittenFrom text w b n g fs m extra) (counters stats) (omega arith) (f ∙ rw long) c (written (omega arith) (omega arith) (v .wrote fs q))
@@ -67,10 +65,10 @@ module _ {text w : List ℕ} {b : Bases} {n : Counts} {g : Layout} {m : Made} {e
 
 module _ {text w v : List ℕ} {b : Bases} {n : Counts} {g : Layout} {m : Made} (s : Source text w b n g) (t : TransformIs text w v b n g m) where
   -- the tables of the text, and the marks, are before what it wrote
-  front : (lo hi : ℕ) → hi ≤ g .last → Kept lo hi w v
+  front : (lo hi : ℕ) → hi ≤ g .last → KeptWords lo hi w v
   front lo hi h = only-kept lo hi (t .only) (inl h, tt)
 
-  text-front : Kept (b .lines) (b .steps + 3 * n .steps) w v
+  text-front : KeptWords (b .lines) (b .steps + 3 * n .steps) w v
   text-front = front (b .lines) (b .steps + 3 * n .steps) (omega (arith, s .placed))
 
   pub transformed-source : Source text v b n g
@@ -95,7 +93,7 @@ module _ {text w v : List ℕ} {b : Bases} {n : Counts} {g : Layout} {m : Made} 
 -- ---- the links
 
 module _ {text v u : List ℕ} {b : Bases} {n : Counts} {g : Layout} {m : Made} {l : Links} (z : Relinkable text v b n g m) (q : SettledIs text v u b n g m l) where
-  settled-front : Kept 0 (g .added) v u
+  settled-front : KeptWords 0 (g .added) v u
   settled-front = only-kept 0 (g .added) (q .only) (inl (omega arith), tt)
 
   pub settled-writable : Writable text u b n g m (l .added)
@@ -196,7 +194,7 @@ module _ {text w v u : List ℕ} {b : Bases} {n : Counts} {g : Layout} {m : Made
   rewrites {nodes} {stats = stats} {counted} {out} {out'} {r} a c x = record { rewrites = λ es cap e h k y. there es cap e h k y }
     where
       there : (es : List Entry) (cap : ℕ) → Tied es text w b n → Marked (isFolded es cap) text w b n (g .folded) → nodes ≡ length (folded es cap) → counters stats ≡ unchanged es
-          → NormalAnswered out out' r (fitted (length out) (normal (rewritten es cap) (rewrittenStats es cap)))
+          → NormalAnswered out out' r (normalFitted (length out) (normal (rewritten es cap) (rewrittenStats es cap)))
       there es cap e h k y =
           let links = now-settled es cap e h .0 in
           let same-stats : counters counted ≡ rewrittenStats es cap = c ∙ rw y (counts-are es cap e h a k) in

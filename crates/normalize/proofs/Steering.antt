@@ -1,26 +1,25 @@
 -- The service's passes, one after the other: what each found is what document 01's rules say of the entries. Assumes nothing.
 use Prim.Native.Nat.{ℕ, _+_, _*_, _≤_}
 use native.Mathlib.Omega.{arith}
-use mathlib.Core.Bool.{Bool, true, false, not, _&&_}
-use mathlib.Core.List.{List, [], _∷_, map}
-use mathlib.Core.Logic.{inl, inr}
+use mathlib.Core.Bool.{Bool, true, false, not}
+use mathlib.Core.List.{List, [], _∷_}
+use mathlib.Core.Logic.{inl}
 use mathlib.Core.Option.{some}
 use mathlib.Core.Path.{_≡_, refl, sym, ap, _∙_}
 use lib.ListN.{length}
 use Rattle.gfa_spec.specs.Bytes.{isEmpty, any, count, keep}
-use Rattle.gfa_spec.specs.Reading.{Entry, Segment}
-use Rattle.gfa_spec.specs.Records.{segments, links, paths, isSelfLink, selfLinks}
-use Rattle.gfa_spec.specs.Runs.{pairs, sameNode, sameStep, overPaths, sameNodePairs, sameStepPairs, stepCount}
+use Rattle.gfa_spec.specs.Reading.{Entry}
+use Rattle.gfa_spec.specs.Records.{segments, paths, selfLinks}
+use Rattle.gfa_spec.specs.Runs.{overPaths, sameNodePairs, sameStepPairs, stepCount}
 use Rattle.gfa_spec.specs.Calls as calls
 use Rattle.gfa_spec.specs.Services.{badStep}
 use Rattle.gfa_spec.proofs.Tests.{by-test}
-use Rattle.normalize_spec.specs.Folding.{eligible, isFolded, folded, repeatsOn}
-use Rattle.normalize_spec.specs.Writing.{rewritten}
-use Rattle.normalize_spec.specs.Counting.{unchanged, rewrittenStats}
-use Rattle.normalize_spec.specs.Services.{Normal, normal, fold, fitted, normalizeEntries, normalize}
+use Rattle.normalize_spec.specs.Folding.{eligible, isFolded, folded}
+use Rattle.normalize_spec.specs.Counting.{unchanged}
+use Rattle.normalize_spec.specs.Services.{normal, fold, normalFitted, normalizeEntries, normalize}
 use Rattle.normalize_spec.proofs.Demand.{fold-accepts}
 use Rattle.work.specs.Rows.{span, Only}
-use Rattle.work.proofs.Rows.{Kept, only-kept}
+use Rattle.work.proofs.Rows.{KeptWords, only-kept}
 use Rattle.reader.specs.declared.answers.Answer.{Answer}
 use Rattle.reader.specs.declared.input.Input.{Input}
 use Rattle.reader.specs.declared.input.Input.the-variants as input
@@ -28,18 +27,16 @@ use Rattle.spelling.specs.declared.spelling.Steps.{Steps}
 use Rattle.spelling.specs.declared.spelling.Steps.the-variants as steps
 use Rattle.tables.specs.declared.tables.Bases.{Bases}
 use Rattle.tables.specs.declared.tables.Counts.{Counts}
-use Rattle.tables.specs.Links.{linksAt}
-use Rattle.tables.specs.Paths.{pathsAt}
 use Rattle.tables.specs.Entries.{entriesAt}
 use Rattle.reader.specs.Inputs.{stated, InputRead, InputIs}
 use Rattle.runs.specs.Counts.{overRows}
 use Rattle.reader.specs.Served.{refusedWith}
 use Rattle.spelling.specs.Spelled.{BadStepIs}
 use Rattle.normalize_tables.specs.declared.layout.Layout.{Layout}
-use Rattle.normalize_tables.specs.Layout.{Placed, Source}
+use Rattle.normalize_tables.specs.Layout.{Source}
 use Rattle.normalize_tables.specs.Marks.{Marked}
 use Rattle.normalize_tables.proofs.Sources.{standing, source-stands}
-use Rattle.targets.specs.Marking.{MarkedIs, AnyIs, FoldedIs}
+use Rattle.targets.specs.Marking.{MarkedIs, AnyIs, MarkFoldedIs}
 use Rattle.fold.specs.Transforms.{AllKnown}
 use Rattle.fold.proofs.Knowns.{all-known}
 use Rattle.normalize.specs.declared.returning.NormalizeSelfLoopsResult.{NormalizeSelfLoopsResult}
@@ -47,7 +44,7 @@ use Rattle.normalize.specs.declared.stats.NormalizeSelfLoopsStats.{Norma
 use Rattle.normalize.specs.Counters.{noCounters, counters, inputCounters, InputStats}
 use Rattle.normalize.specs.Served.{NormalAnswered}
 use Rattle.normalize.specs.Tied.{Tied, Loaded}
-use Rattle.normalize.specs.Folding.{badAnswerIn, Marks, FoldIs, RewriteIs}
+use Rattle.normalize.specs.Folding.{badAnswerIn, Marks, FoldTextIs, RewriteIs}
 use Rattle.normalize.proofs.Answering.{refuses}
 use Rattle.normalize.proofs.Tying.{tied-stands, tied-itself}
 
@@ -69,7 +66,7 @@ keep-length p (x ∷ xs) = by-test (p x) (λ e. rw (e, keep-length p xs)) (λ e.
 
 module _ {text w w' : List ℕ} {b : Bases} {n : Counts} {g : Layout} (s : Source text w b n g) where
   -- marks are behind them
-  pub marks-behind : (from to : ℕ) → g .eligible ≤ from → Only (span from to ∷ []) w w' → Kept (b .lines) (b .steps + 3 * n .steps) w w'
+  pub marks-behind : (from to : ℕ) → g .eligible ≤ from → Only (span from to ∷ []) w w' → KeptWords (b .lines) (b .steps + 3 * n .steps) w w'
   marks-behind from to l o = only-kept (b .lines) (b .steps + 3 * n .steps) o (inl (omega (arith, s .placed)), tt)
 
 -- ---- rules 1 to 3
@@ -88,11 +85,11 @@ module _ (es : List Entry) (cap : ℕ) {text w : List ℕ} {b : Bases} {n : Coun
       keep-empty (isFolded es cap) (segments es) ∙ ap not (sym found)
 
   -- the marks of the folded segments, and how many there are
-  pub folded-marked : {w' : List ℕ} {r : ℕ} → FoldedIs text w w' b n g r → Marked (eligible es cap) text w b n (g .eligible) → Marked (isFolded es cap) text w' b n (g .folded)
+  pub folded-marked : {w' : List ℕ} {r : ℕ} → MarkFoldedIs text w w' b n g r → Marked (eligible es cap) text w b n (g .eligible) → Marked (isFolded es cap) text w' b n (g .folded)
   unfolding isFolded
   folded-marked f m = rw (t .of-paths) at (f .marked (eligible es cap) m)
 
-  pub folded-counted : {w' : List ℕ} {r : ℕ} → FoldedIs text w w' b n g r → Marked (eligible es cap) text w b n (g .eligible) → r ≡ length (folded es cap)
+  pub folded-counted : {w' : List ℕ} {r : ℕ} → MarkFoldedIs text w w' b n g r → Marked (eligible es cap) text w b n (g .eligible) → r ≡ length (folded es cap)
   unfolding folded isFolded
   folded-counted f m = f .counted (eligible es cap) m ∙ rw (t .of-segments, t .of-paths) (sym (keep-length (isFolded es cap) (segments es)))
 
@@ -106,22 +103,22 @@ stats-are es t v s = s .counts ∙ rw (t .of-links, t .of-paths, ← v, t .of-pa
 
 module _ {text w : List ℕ} {b : Bases} {n : Counts} {g : Layout} {stats : NormalizeSelfLoopsStats} {out out' : List ℕ} {r : NormalizeSelfLoopsResult} where
   -- a step is bad
-  pub fold-bad : {k : Steps} {q : Answer} → BadStepIs text w b n k → k ≡ steps.Bad q → r .answer ≡ badAnswerIn k → counters (r .stats) ≡ noCounters → out' ≡ out → FoldIs text w b n g stats out out' r
-  unfolding fold fitted
+  pub fold-bad : {k : Steps} {q : Answer} → BadStepIs text w b n k → k ≡ steps.Bad q → r .answer ≡ badAnswerIn k → counters (r .stats) ≡ noCounters → out' ≡ out → FoldTextIs text w b n g stats out out' r
+  unfolding fold normalFitted
   fold-bad {k} {q} h e f c u = record { folds = λ es cap t m s. there es cap t }
     where
-      there : (es : List Entry) (cap : ℕ) → Tied es text w b n → NormalAnswered out out' r (fitted (length out) (fold es cap (badStep es (paths es))))
+      there : (es : List Entry) (cap : ℕ) → Tied es text w b n → NormalAnswered out out' r (normalFitted (length out) (fold es cap (badStep es (paths es))))
       there es cap t =
           let bad : badStep es (paths es) ≡ some (stated q) = rw e at (h .first es (sym (t .of-segments)) (sym (t .of-paths))) in
-          refuses (stated q) (fitted (length out) (fold es cap (badStep es (paths es)))) (rw bad) (f ∙ ap badAnswerIn e) c u
+          refuses (stated q) (normalFitted (length out) (fold es cap (badStep es (paths es)))) (rw bad) (f ∙ ap badAnswerIn e) c u
 
   -- no step is bad
-  pub fold-good : {w' : List ℕ} {nodes : ℕ} {k : Steps} → Source text w b n g → BadStepIs text w b n k → k ≡ steps.Known → FoldedIs text w w' b n g nodes → RewriteIs text w' b n g nodes stats out out' r
-      → FoldIs text w b n g stats out out' r
+  pub fold-good : {w' : List ℕ} {nodes : ℕ} {k : Steps} → Source text w b n g → BadStepIs text w b n k → k ≡ steps.Known → MarkFoldedIs text w w' b n g nodes → RewriteIs text w' b n g nodes stats out out' r
+      → FoldTextIs text w b n g stats out out' r
   fold-good {w'} {nodes} {k} source h e f x = record { folds = λ es cap t m s. there es cap t m s }
     where
       there : (es : List Entry) (cap : ℕ) → Tied es text w b n → Marked (eligible es cap) text w b n (g .eligible) → counters stats ≡ unchanged es
-          → NormalAnswered out out' r (fitted (length out) (fold es cap (badStep es (paths es))))
+          → NormalAnswered out out' r (normalFitted (length out) (fold es cap (badStep es (paths es))))
       there es cap t m s =
           let good = rw e at (h .first es (sym (t .of-segments)) (sym (t .of-paths))) in
           let kept = marks-behind source (g .folded) (g .folded + n .segs) (omega (arith, source .placed)) (f .only) in
@@ -130,8 +127,8 @@ module _ {text w : List ℕ} {b : Bases} {n : Counts} {g : Layout} {stats : Norm
 
 -- ---- what the rewriting asks
 
-module _ {text w w' : List ℕ} {b : Bases} {n : Counts} {g : Layout} {nodes : ℕ} (s : Source text w b n g) (f : FoldedIs text w w' b n g nodes) where
-  folding-front : Kept (b .lines) (b .steps + 3 * n .steps) w w'
+module _ {text w w' : List ℕ} {b : Bases} {n : Counts} {g : Layout} {nodes : ℕ} (s : Source text w b n g) (f : MarkFoldedIs text w w' b n g nodes) where
+  folding-front : KeptWords (b .lines) (b .steps + 3 * n .steps) w w'
   folding-front = marks-behind s (g .folded) (g .folded + n .segs) (omega (arith, s .placed)) (f .only)
 
   -- the tables, known steps, and marks
@@ -158,14 +155,14 @@ module _ {text : List ℕ} {cap : ℕ} {w w' : List ℕ} {b : Bases} {n : Counts
   )
 
   -- folded
-  pub tables-folded : {out out' : List ℕ} {r : NormalizeSelfLoopsResult} → found ≡ true → FoldIs text w' b n g stats out out' r → NormalAnswered out out' r (fitted (length out) (normalizeEntries text cap (calls.entries (entriesAt text w b (n .lines)))))
+  pub tables-folded : {out out' : List ℕ} {r : NormalizeSelfLoopsResult} → found ≡ true → FoldTextIs text w' b n g stats out out' r → NormalAnswered out out' r (normalFitted (length out) (normalizeEntries text cap (calls.entries (entriesAt text w b (n .lines)))))
   unfolding normalizeEntries
   tables-folded e f =
       let some-folded : isEmpty (folded (entriesAt text w b (n .lines)) cap) ≡ false = any-is _ cap now-tied a (eligible-marked _ cap (l .tied) m) ∙ ap not e in
       rw some-folded (f .folds _ cap now-tied (eligible-marked _ cap (l .tied) m) (stats-are _ (l .tied) (l .visits) i))
 
   -- returned
-  pub tables-returned : {out out' : List ℕ} {r : NormalizeSelfLoopsResult} → found ≡ false → NormalAnswered out out' r (fitted (length out) (normal text (counters stats))) → NormalAnswered out out' r (fitted (length out) (normalizeEntries text cap (calls.entries (entriesAt text w b (n .lines)))))
+  pub tables-returned : {out out' : List ℕ} {r : NormalizeSelfLoopsResult} → found ≡ false → NormalAnswered out out' r (normalFitted (length out) (normal text (counters stats))) → NormalAnswered out out' r (normalFitted (length out) (normalizeEntries text cap (calls.entries (entriesAt text w b (n .lines)))))
   unfolding normalizeEntries
   tables-returned e f =
       let none-folded : isEmpty (folded (entriesAt text w b (n .lines)) cap) ≡ true = any-is _ cap now-tied a (eligible-marked _ cap (l .tied) m) ∙ ap not e in
@@ -176,12 +173,12 @@ module _ {text : List ℕ} {cap : ℕ} {w w' : List ℕ} {b : Bases} {n : Counts
 -- the text is refused
 pub text-refused : {text before work out out' : List ℕ} {k : Input} {q : Answer} {r : NormalizeSelfLoopsResult} (cap : ℕ) → InputIs text before work k → k ≡ input.Refused q
     → r .answer ≡ refusedWith k → counters (r .stats) ≡ noCounters → out' ≡ out → NormalAnswered out out' r (normalize text cap (length out) (length before))
-unfolding normalize normalizeEntries fitted
+unfolding normalize normalizeEntries normalFitted
 text-refused {text} {before} {out = out} {q = q} cap h e f c u =
-    refuses (stated q) (normalize text cap (length out) (length before)) (ap (λ i. fitted (length out) (normalizeEntries text cap i)) (rw e at (h .says))) (f ∙ ap refusedWith e) c u
+    refuses (stated q) (normalize text cap (length out) (length before)) (ap (λ i. normalFitted (length out) (normalizeEntries text cap i)) (rw e at (h .says))) (f ∙ ap refusedWith e) c u
 
 -- and any other
 pub text-answered : {text before work out out' : List ℕ} {b : Bases} {n : Counts} {r : NormalizeSelfLoopsResult} (cap : ℕ) → InputRead text before work b n
-    → NormalAnswered out out' r (fitted (length out) (normalizeEntries text cap (calls.entries (entriesAt text work b (n .lines))))) → NormalAnswered out out' r (normalize text cap (length out) (length before))
+    → NormalAnswered out out' r (normalFitted (length out) (normalizeEntries text cap (calls.entries (entriesAt text work b (n .lines))))) → NormalAnswered out out' r (normalize text cap (length out) (length before))
 unfolding normalize
 text-answered cap h a = rw (h .read) a

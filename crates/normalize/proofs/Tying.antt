@@ -1,21 +1,20 @@
 -- The tables and the definitions: what the passes found, as document 01's rules say it of the entries. Assumes nothing.
-use Prim.Native.Nat.{ℕ, _+_, _*_}
+use Prim.Native.Nat.{ℕ}
 use native.Mathlib.Omega.{arith}
-use mathlib.Core.Bool.{Bool, true, not}
+use mathlib.Core.Bool.{true}
 use mathlib.Core.List.{List, map}
 use mathlib.Core.Path.{_≡_, refl, sym, ap, _∙_}
 use lib.ListN.{length}
-use Rattle.gfa_spec.specs.Bytes.{any, count, keep, join, sum, distinct}
+use Rattle.gfa_spec.specs.Bytes.{any, count, sum, distinct}
 use Rattle.gfa_spec.specs.Reading.{Entry, Segment}
 use Rattle.gfa_spec.specs.Records.{segments, links, paths}
 use Rattle.gfa_spec.specs.Runs.{runs, stepCount}
 use Rattle.gfa_spec.proofs.Texts.{parse-distinct}
 use Rattle.gfa_spec.proofs.Admission.{input-entries}
-use Rattle.normalize_spec.specs.Folding.{folded, isFolded, isFoldedRun, transform, taken}
-use Rattle.normalize_spec.specs.Links.{isRemoved, keyOf, kept, adjacent, missing, added}
+use Rattle.normalize_spec.specs.Folding.{folded, isFoldedRun, transform}
+use Rattle.normalize_spec.specs.Links.{kept, added}
 use Rattle.normalize_spec.specs.Counting.{foldedRuns}
 use Rattle.normalize_spec.proofs.Segments.{ids, paths-sound, sound-differ}
-use Rattle.work.proofs.Rows.{Kept}
 use Rattle.tables.specs.declared.tables.Bases.{Bases}
 use Rattle.tables.specs.declared.tables.Counts.{Counts}
 use Rattle.tables.specs.Segments.{segmentsAt, idsOf}

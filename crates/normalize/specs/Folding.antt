@@ -10,7 +10,7 @@ use Rattle.gfa_spec.specs.Services.{badStep}
 use Rattle.normalize_spec.specs.Folding.{eligible, isFolded, folded}
 use Rattle.normalize_spec.specs.Writing.{rewritten}
 use Rattle.normalize_spec.specs.Counting.{unchanged, rewrittenStats}
-use Rattle.normalize_spec.specs.Services.{normal, fold, fitted}
+use Rattle.normalize_spec.specs.Services.{normal, fold, normalFitted}
 use Rattle.reader.specs.declared.answers.Answer.{Answer}
 use Rattle.spelling.specs.declared.spelling.Steps.{Steps}
 use Rattle.spelling.specs.declared.spelling.Steps.the-variants as steps
@@ -41,14 +41,14 @@ pub record Marks (text work : List ℕ) (b : Bases) (n : Counts) (base : ℕ) : 
   pub marked : Marked test text work b n base
 
 -- What is answered where some segment is folded: 18 or 19, or the rewritten text.
-pub record FoldIs (text work : List ℕ) (b : Bases) (n : Counts) (g : Layout) (stats : NormalizeSelfLoopsStats) (out out' : List ℕ) (r : NormalizeSelfLoopsResult) : Type 0 where
+pub record FoldTextIs (text work : List ℕ) (b : Bases) (n : Counts) (g : Layout) (stats : NormalizeSelfLoopsStats) (out out' : List ℕ) (r : NormalizeSelfLoopsResult) : Type 0 where
   pub folds : (es : List Entry) (cap : ℕ) → Tied es text work b n → Marked (eligible es cap) text work b n (g .eligible) → counters stats ≡ unchanged es
-      → NormalAnswered out out' r (fitted (length out) (fold es cap (badStep es (paths es))))
+      → NormalAnswered out out' r (normalFitted (length out) (fold es cap (badStep es (paths es))))
 
 -- What is answered once no step is bad and the folded segments are marked and counted: the rewritten text.
 pub record RewriteIs (text work : List ℕ) (b : Bases) (n : Counts) (g : Layout) (nodes : ℕ) (stats : NormalizeSelfLoopsStats) (out out' : List ℕ) (r : NormalizeSelfLoopsResult) : Type 0 where
   pub rewrites : (es : List Entry) (cap : ℕ) → Tied es text work b n → Marked (isFolded es cap) text work b n (g .folded) → nodes ≡ length (folded es cap) → counters stats ≡ unchanged es
-      → NormalAnswered out out' r (fitted (length out) (normal (rewritten es cap) (rewrittenStats es cap)))
+      → NormalAnswered out out' r (normalFitted (length out) (normal (rewritten es cap) (rewrittenStats es cap)))
 
 -- What is asked before the rewritten text is written.
 pub record Writable (text work : List ℕ) (b : Bases) (n : Counts) (g : Layout) (m : Made) (extra : ℕ) : Type 0 where
@@ -59,4 +59,4 @@ pub record Writable (text work : List ℕ) (b : Bases) (n : Counts) (g : Layout)
 
 -- What is answered once the links are settled: the rewritten text of the tables, with these statistics.
 pub record WriteIs (text work : List ℕ) (b : Bases) (n : Counts) (g : Layout) (m : Made) (extra : ℕ) (stats : NormalizeSelfLoopsStats) (out out' : List ℕ) (r : NormalizeSelfLoopsResult) : Type 0 where
-  pub writes : (fs : List Segment) → Relinked text work b n g fs m extra → NormalAnswered out out' r (fitted (length out) (normal (rewrittenFrom text work b n g fs m extra) (counters stats)))
+  pub writes : (fs : List Segment) → Relinked text work b n g fs m extra → NormalAnswered out out' r (normalFitted (length out) (normal (rewrittenFrom text work b n g fs m extra) (counters stats)))

@@ -2,7 +2,7 @@
 ghost use mathlib.Core.Path.{_≡_};
 ghost use Rattle.tables.specs.Entries.{entriesAt};
 ghost use Rattle.normalize_tables.specs.Layout.{Source};
-ghost use Rattle.normalize.specs.Folding.{badAnswerIn, Marks, FoldIs};
+ghost use Rattle.normalize.specs.Folding.{badAnswerIn, Marks, FoldTextIs};
 ghost use Rattle.normalize.specs.Tied.{Tied};
 use crate::returning::NormalizeSelfLoopsResult;
 use crate::returning::refused;
@@ -38,7 +38,7 @@ pub fn fold_text(
     out: &mut [u8],
 ) -> NormalizeSelfLoopsResult
     requires { ⌜ Source (now text) (now work) b n g × Tied (entriesAt (now text) (now work) b (n .lines)) (now text) (now work) b n × Marks (now text) (now work) b n (g .eligible) ⌝ }
-    ensures { λ r. ⌜ FoldIs (now (text .entry)) (now (work .entry)) b n g stats (now (out .entry)) (now (out .exit)) r ⌝ }
+    ensures { λ r. ⌜ FoldTextIs (now (text .entry)) (now (work .entry)) b n g stats (now (out .entry)) (now (out .exit)) r ⌝ }
 {
     let known = bad_step(text, work, b, n);
     let Steps::Known = known else {

@@ -1,7 +1,7 @@
 // Rule 3: where no segment is folded the text returns byte for byte.
 ghost use mathlib.Core.Path.{_≡_};
 ghost use lib.ListN.{length};
-ghost use Rattle.normalize_spec.specs.Services.{normal, fitted};
+ghost use Rattle.normalize_spec.specs.Services.{normal, normalFitted};
 ghost use Rattle.normalize.specs.Counters.{noCounters, counters};
 ghost use Rattle.normalize.specs.Served.{NormalAnswered};
 use crate::stats::NormalizeSelfLoopsStats;
@@ -33,7 +33,7 @@ pub fn return_text(
     out: &mut [u8],
     stats: NormalizeSelfLoopsStats,
 ) -> NormalizeSelfLoopsResult
-    ensures { λ r. ⌜ NormalAnswered (now (out .entry)) (now (out .exit)) r (fitted (length (now (out .entry))) (normal (now (text .entry)) (counters stats))) ⌝ }
+    ensures { λ r. ⌜ NormalAnswered (now (out .entry)) (now (out .exit)) r (normalFitted (length (now (out .entry))) (normal (now (text .entry)) (counters stats))) ⌝ }
 {
     let size = text.len();
     if out.len() < size {

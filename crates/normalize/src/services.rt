@@ -6,7 +6,7 @@
 // of any two calls that meet this contract.
 ghost use lib.ListN.{length};
 ghost use Rattle.gfa_spec.specs.Calls.{entries};
-ghost use Rattle.normalize_spec.specs.Services.{fitted, normalizeEntries, normalize};
+ghost use Rattle.normalize_spec.specs.Services.{normalFitted, normalizeEntries, normalize};
 ghost use Rattle.tables.specs.Entries.{entriesAt};
 ghost use Rattle.normalize.specs.Served.{NormalAnswered, Normalized};
 ghost use Rattle.normalize.specs.Tied.{Loaded};
@@ -37,7 +37,7 @@ fn answer_tables(
 ) -> NormalizeSelfLoopsResult
     requires { ⌜ Loaded (now text) (now work) b n ⌝ }
     ensures { λ r. ⌜ NormalAnswered (now (out .entry)) (now (out .exit)) r
-        (fitted (length (now (out .entry))) (normalizeEntries (now (text .entry)) cap (entries (entriesAt (now (text .entry)) (now (work .entry)) b (n .lines))))) ⌝ }
+        (normalFitted (length (now (out .entry))) (normalizeEntries (now (text .entry)) cap (entries (entriesAt (now (text .entry)) (now (work .entry)) b (n .lines))))) ⌝ }
 {
     let stats = input_stats(text, work, b, n);
     let g = layout_of(work, b, n);

@@ -154,8 +154,8 @@ largest-bound n m (s ∷ ss) h = go (λ k. largest-bound k m ss) (numberOf (s .i
 -- ---- the bytes of a new ID
 
 -- plain bytes, at least one
-unfoldable pub isName : List ℕ → Bool
-isName id = not (isEmpty id) && all isPlain id
+unfoldable pub isPlainName : List ℕ → Bool
+isPlainName id = not (isEmpty id) && all isPlain id
 
 -- a digit is plain
 digit-plain : (b : ℕ) → isDigit b ≡ true → isPlain b ≡ true
@@ -167,8 +167,8 @@ decimal-plain : (n : ℕ) → all isPlain (decimal n) ≡ true
 decimal-plain n = all-implies isDigit isPlain digit-plain (decimal n) (decimal-digits n)
 
 -- a number can be a name
-decimal-name : (n : ℕ) → isName (decimal n) ≡ true
-unfolding isName
+decimal-name : (n : ℕ) → isPlainName (decimal n) ≡ true
+unfolding isPlainName
 decimal-name n = rw (decimal-some n, decimal-plain n)
 
 -- the byte _ is plain
@@ -189,28 +189,28 @@ empty-append [] ys = refl
 empty-append (x ∷ xs) ys = refl
 
 -- plain bytes around a name are a name
-name-behind : (xs ys : List ℕ) → all isPlain xs ≡ true → isName ys ≡ true → isName (xs ++ ys) ≡ true
-unfolding isName
+name-behind : (xs ys : List ℕ) → all isPlain xs ≡ true → isPlainName ys ≡ true → isPlainName (xs ++ ys) ≡ true
+unfolding isPlainName
 name-behind xs ys p h =
     let q = and-right (not (isEmpty ys)) (all isPlain ys) h in
     let e = not-true (isEmpty ys) (and-left (not (isEmpty ys)) (all isPlain ys) h) in
     rw (empty-append, all-append, e, p, q) (by-test (isEmpty xs) (λ i. rw i) (λ i. rw i))
 
 -- a name with plain bytes behind it is a name
-name-before : (xs ys : List ℕ) → isName xs ≡ true → all isPlain ys ≡ true → isName (xs ++ ys) ≡ true
-unfolding isName
+name-before : (xs ys : List ℕ) → isPlainName xs ≡ true → all isPlain ys ≡ true → isPlainName (xs ++ ys) ≡ true
+unfolding isPlainName
 name-before xs ys h q =
     let p = and-right (not (isEmpty xs)) (all isPlain xs) h in
     let e = not-true (isEmpty xs) (and-left (not (isEmpty xs)) (all isPlain xs) h) in
     rw (empty-append, all-append, e, p, q)
 
 -- the base of a new name is a name
-base-name : (name : List ℕ) (count : ℕ) → isName (baseName name count) ≡ true
+base-name : (name : List ℕ) (count : ℕ) → isPlainName (baseName name count) ≡ true
 unfolding baseName
 base-name name count = name-behind (sanitized name) (bytes "_selfloop_run" ++ decimal count) (sanitized-plain name) (name-behind (bytes "_selfloop_run") (decimal count) (unfold bytes all isPlain isDigit in refl) (decimal-name count))
 
 -- a name with a suffix is a name
-suffixed-name : (fuel : ℕ) (taken : List (List ℕ)) (base : List ℕ) (k : ℕ) → isName base ≡ true → isName (suffixed fuel taken base k) ≡ true
+suffixed-name : (fuel : ℕ) (taken : List (List ℕ)) (base : List ℕ) (k : ℕ) → isPlainName base ≡ true → isPlainName (suffixed fuel taken base k) ≡ true
 unfolding suffixed
 suffixed-name zero taken base k h = h
 suffixed-name (suc fuel) taken base k h =
@@ -219,12 +219,12 @@ suffixed-name (suc fuel) taken base k h =
     (λ e. rw (e, suffixed) (name-before base (95 ∷ decimal k) h (unfold all in rw underscore-plain (decimal-plain k))))
 
 -- a free name is a name
-freeName-name : (taken : List (List ℕ)) (base : List ℕ) → isName base ≡ true → isName (freeName taken base) ≡ true
+freeName-name : (taken : List (List ℕ)) (base : List ℕ) → isPlainName base ≡ true → isPlainName (freeName taken base) ≡ true
 unfolding freeName
 freeName-name taken base h = by-test (any (same base) taken) (λ e. rw e (suffixed-name (suc (length taken)) taken base 1 h)) (λ e. rw e h)
 
 -- a new ID is made of A-Z a-z 0-9 _ . : #, and is not empty
-pub newId-name : (taken : List (List ℕ)) (name : List ℕ) (count : ℕ) (next : Option ℕ) → isName (newId taken name count next) ≡ true
+pub newId-name : (taken : List (List ℕ)) (name : List ℕ) (count : ℕ) (next : Option ℕ) → isPlainName (newId taken name count next) ≡ true
 unfolding newId
 newId-name taken name count none = freeName-name taken (baseName name count) (base-name name count)
 newId-name taken name count (some n) = decimal-name n

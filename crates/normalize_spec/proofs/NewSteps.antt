@@ -18,10 +18,10 @@ use Rattle.gfa_spec.proofs.Clean.{isLineByte, isFieldByte, FieldBytes}
 use Rattle.normalize_spec.specs.Folding.{folded, isFoldedRun, isPlain, New, NewStep, asNew, transform}
 use Rattle.normalize_spec.specs.Links.{Key, kept, keyOf, sameKey, adjacent, missing, added}
 use Rattle.normalize_spec.proofs.Images.{idFor, image, images, images-each, HasId, transform-images}
-use Rattle.normalize_spec.proofs.Ids.{isName}
+use Rattle.normalize_spec.proofs.Ids.{isPlainName}
 use Rattle.normalize_spec.proofs.Segments.{newIds}
 use Rattle.normalize_spec.proofs.Lookup.{made-each}
-use Rattle.normalize_spec.proofs.WrittenLines.{Plain, Writable}
+use Rattle.normalize_spec.proofs.WrittenLines.{Plain, StepWritable}
 
 -- ---- the bytes of a new ID
 
@@ -53,21 +53,21 @@ unfolding isFieldByte isLineByte isPlain isDigit
 plain-field c h = rw (plain-other 9 refl c h, plain-other 10 refl c h, plain-other 13 refl c h, lt-leb 128 c (plain-bound c h))
 
 -- a name is made of plain bytes
-name-plain : (id : List ℕ) → isName id ≡ true → Each (λ c. isPlain c ≡ true) id
-unfolding isName
+name-plain : (id : List ℕ) → isPlainName id ≡ true → Each (λ c. isPlain c ≡ true) id
+unfolding isPlainName
 name-plain id h = all-each isPlain id (and-right (not (isEmpty id)) (all isPlain id) h)
 
 -- and is not empty
-name-some : (id : List ℕ) → isName id ≡ true → isEmpty id ≡ false
-unfolding isName
+name-some : (id : List ℕ) → isPlainName id ≡ true → isEmpty id ≡ false
+unfolding isPlainName
 name-some id h = not-true (isEmpty id) (and-left (not (isEmpty id)) (all isPlain id) h)
 
 -- a name is made of bytes that a field may hold
-pub name-field : (id : List ℕ) → isName id ≡ true → FieldBytes id
+pub name-field : (id : List ℕ) → isPlainName id ≡ true → FieldBytes id
 name-field id h = each-implies plain-field id (name-plain id h)
 
 -- and lacks each byte that is not plain
-name-lacks : (b : ℕ) → isPlain b ≡ false → (id : List ℕ) → isName id ≡ true → Lacks b id
+name-lacks : (b : ℕ) → isPlain b ≡ false → (id : List ℕ) → isPlainName id ≡ true → Lacks b id
 name-lacks b n id h = each-implies (plain-other b n) id (name-plain id h)
 
 -- ---- a step with a new ID for a name
@@ -78,10 +78,10 @@ renamed s id = record { name = id; orientation = s .orientation }
 
 -- what a step has it keeps under a new ID
 abbrev pub Renamable : (NewStep → Type 0) → Type 0
-Renamable S = (s : NewStep) (id : List ℕ) → S s → isName id ≡ true → S (renamed s id)
+Renamable S = (s : NewStep) (id : List ℕ) → S s → isPlainName id ≡ true → S (renamed s id)
 
 -- such are the steps that a line of the kind can hold
-pub writable-renamed : (k : Kind) → Renamable (Writable k)
+pub writable-renamed : (k : Kind) → Renamable (StepWritable k)
 unfolding renamed isPlain isDigit
 writable-renamed P s id h n = record { named = name-some id n; plain = name-lacks 44 refl id n; oriented = h .oriented }
 writable-renamed W s id h n = record { named = name-some id n; no-right = name-lacks 62 refl id n; no-left = name-lacks 60 refl id n; oriented = h .oriented }
@@ -93,14 +93,14 @@ plain-renamed s id h n = record { oriented = h .oriented; bytes = name-field id 
 
 -- ---- the steps of a new path
 
-module _ (S : NewStep → Type 0) (kept-under : Renamable S) (fs : List Segment) (new : List New) (names : all isName (newIds new) ≡ true) where
+module _ (S : NewStep → Type 0) (kept-under : Renamable S) (fs : List Segment) (new : List New) (names : all isPlainName (newIds new) ≡ true) where
   -- a run's image has what its step has
   image-step : (r : Run) → HasId fs new r → S (asNew (r .step)) → S (image fs new r)
   unfolding image asNew renamed
   image-step r has h =
       by-test (isFoldedRun fs r)
       (λ e. rw e (kept-under (asNew (r .step)) (idFor new r) h
-      (made-each (λ id. isName id ≡ true) (r .step .name .bytes) (r .count) new (idFor new r) (has e) (all-each isName (newIds new) names))))
+      (made-each (λ id. isPlainName id ≡ true) (r .step .name .bytes) (r .count) new (idFor new r) (has e) (all-each isPlainName (newIds new) names))))
       (λ e. rw e h)
 
   -- the steps of a new path have what the steps of the path have

@@ -1,6 +1,6 @@
 -- The transformation, run by run and path by path: what is done, and what is left. Assumes nothing.
 use mathlib.Core.List.{List, [], _∷_, _++_, append-assoc, append-nil}
-use mathlib.Core.Path.{_≡_, refl, sym, ap, _∙_}
+use mathlib.Core.Path.{_≡_, refl}
 use Rattle.gfa_spec.specs.Reading.{Segment, Path}
 use Rattle.gfa_spec.specs.Runs.{Run, runs}
 use Rattle.normalize_spec.specs.Folding.{Made, NewStep, Transformed, AllTransformed, turn, transformRuns, transformPaths}

@@ -15,7 +15,7 @@ use Rattle.normalize_spec.specs.Folding.{New, NewStep, asNew}
 use Rattle.normalize_spec.specs.Links.{Key}
 use Rattle.normalize_spec.specs.Writing.{segmentLine, linkLine, stepField, replace, pathLine, withSteps}
 use Rattle.normalize_spec.specs.Services.{asStep, asSegment}
-use Rattle.normalize_spec.proofs.WrittenLines.{segment-read, link-read, Plain, NoTab, stepField-bytes, Writable, path-read}
+use Rattle.normalize_spec.proofs.WrittenLines.{segment-read, link-read, Plain, NoTab, stepField-bytes, StepWritable, path-read}
 use Rattle.normalize_spec.proofs.NewSteps.{Ends}
 use Rattle.normalize_spec.proofs.Output.{asLink, renew, asNew-asStep}
 
@@ -130,7 +130,7 @@ withSteps-each F W steps fs h g = replace-each F 6 (stepField W steps) fs h g
 -- A path, and new steps that its line can hold.
 pub record Renewed (p : Path) (steps : List NewStep) : Type 0 where
   pub from : From (path p)
-  pub writable : Each (Writable (p .kind)) steps
+  pub writable : Each (StepWritable (p .kind)) steps
   pub clean : Each CleanStep steps
 
 -- the bytes that a step field has of its own

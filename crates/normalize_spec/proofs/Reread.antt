@@ -21,11 +21,11 @@ use Rattle.normalize_spec.specs.Folding.{folded, asNew, transform}
 use Rattle.normalize_spec.specs.Links.{isRemoved, kept, added}
 use Rattle.normalize_spec.specs.Writing.{rewritten}
 use Rattle.normalize_spec.specs.Services.{asSegment}
-use Rattle.normalize_spec.proofs.Ids.{isName}
+use Rattle.normalize_spec.proofs.Ids.{isPlainName}
 use Rattle.normalize_spec.proofs.Images.{HasId, transform-has}
 use Rattle.normalize_spec.proofs.Segments.{newIds, transform-sound}
 use Rattle.normalize_spec.proofs.Lookup.{new-bytes}
-use Rattle.normalize_spec.proofs.WrittenLines.{Writable, path-writable, path-plain}
+use Rattle.normalize_spec.proofs.WrittenLines.{StepWritable, path-writable, path-plain}
 use Rattle.normalize_spec.proofs.NewSteps.{name-field, writable-renamed, plain-renamed, images-steps, Ends, added-ends}
 use Rattle.normalize_spec.proofs.Output.{asLink, renew, newSegments, newLinks, stepsFor, newPaths, output, rewritten-output, output-sorted, output-distinct, output-steps}
 use Rattle.normalize_spec.proofs.OutputLines.{InField, CleanStep, Good, kept-good, CleanNew, segment-good, link-good, Renewed, path-good}
@@ -41,7 +41,7 @@ module _ (es : List Entry) (cap : ℕ) (from : Each From es) where
       let sound = transform-sound es cap in
       let sequences = each-implies (λ s f. each-all isFieldByte (s .sequence) (from-clean (segment s) f .1)) (segments es) (sorted-each From es from .0) in
       each-both (λ n. FieldBytes (n .id)) (λ n. FieldBytes (n .sequence)) new
-      (each-of-map FieldBytes (λ n. n .id) new (each-implies name-field (newIds new) (all-each isName (newIds new) (sound .names))))
+      (each-of-map FieldBytes (λ n. n .id) new (each-implies name-field (newIds new) (all-each isPlainName (newIds new) (sound .names))))
       (each-implies (λ n. all-each isFieldByte (n .sequence)) new (new-bytes isFieldByte (segments es) new (sound .repeated) sequences))
 
   -- a path of the input with its new steps
@@ -54,7 +54,7 @@ module _ (es : List Entry) (cap : ℕ) (from : Each From es) where
       let fs = fields (f .line) in
       record {
         from = f;
-        writable = images-steps (Writable (p .kind)) (writable-renamed (p .kind)) (folded es cap) new names (p .steps) has (path-writable (f .ids) (f .line) fs p h);
+        writable = images-steps (StepWritable (p .kind)) (writable-renamed (p .kind)) (folded es cap) new names (p .steps) has (path-writable (f .ids) (f .line) fs p h);
         clean = images-steps CleanStep plain-renamed (folded es cap) new names (p .steps) has (path-plain InField (f .ids) (f .line) fs p (fields-clean (f .line) (f .clean)) h);
       }
 

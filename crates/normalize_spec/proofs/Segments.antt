@@ -14,7 +14,7 @@ use Rattle.gfa_spec.specs.Runs.{Run, runs}
 use Rattle.gfa_spec.proofs.Tests.{by-test, or-left, or-right, same-refl, any-append, all-append, all-implies, apart, distinct-append}
 use Rattle.gfa_spec.proofs.Decimal.{number-decimal}
 use Rattle.normalize_spec.specs.Folding.{folded, isFoldedRun, largestId, usable, newId, nextAfter, New, Made, madeFor, taken, newSegment, makeSegment, onto, foldRun, keepRun, transformRuns, transformPaths, noneMade, transform, turn}
-use Rattle.normalize_spec.proofs.Ids.{below, below-number, below-more, newId-free, newId-number, next-usable, largest-bound, isName, newId-name}
+use Rattle.normalize_spec.proofs.Ids.{below, below-number, below-more, newId-free, newId-number, next-usable, largest-bound, isPlainName, newId-name}
 
 -- ---- what each new segment keeps, all keep
 
@@ -69,7 +69,7 @@ pub record SoundTable (ss : List Segment) (made : Made) : Type 0 where
   pub outside : apart (ids ss) (newIds (made .new)) ≡ true
   pub different : distinct (newIds (made .new)) ≡ true
   -- they are not empty, and made of A-Z a-z 0-9 _ . : #
-  pub names : all isName (newIds (made .new)) ≡ true
+  pub names : all isPlainName (newIds (made .new)) ≡ true
   pub repeated : all (isRepeated ss) (made .new) ≡ true
 
 -- the table is sound before any segment is made
@@ -121,7 +121,7 @@ make-sound ss r made h =
       numbers = λ m e. rw taken-more (make-numbers ss r made h m e);
       outside = rw newIds-more (unfold apart in all-more (λ y. not (any (same y) (ids ss))) (newIds (made .new)) (n .id) (h .outside) (rw outside));
       different = rw newIds-more (distinct-append (newIds (made .new)) (n .id ∷ []) (h .different) (unfold distinct any in refl) (unfold apart all in rw different));
-      names = rw newIds-more (all-more isName (newIds (made .new)) (n .id) (h .names) (unfold newSegment in newId-name (taken ss (made .new)) (r .step .name .bytes) (r .count) (usable (made .next))));
+      names = rw newIds-more (all-more isPlainName (newIds (made .new)) (n .id) (h .names) (unfold newSegment in newId-name (taken ss (made .new)) (r .step .name .bytes) (r .count) (usable (made .next))));
       repeated = all-more (isRepeated ss) (made .new) n (h .repeated) (unfold isRepeated newSegment in same-refl (repeat (r .count) (sequenceOrEmpty ss (r .step .name .bytes))));
     }
 

@@ -18,7 +18,7 @@ use Rattle.gfa_spec.specs.Services.{badStep}
 use Rattle.normalize_spec.specs.Folding.{folded}
 use Rattle.normalize_spec.specs.Writing.{rewritten}
 use Rattle.normalize_spec.specs.Counting.{Stats, unchanged, rewrittenStats}
-use Rattle.normalize_spec.specs.Services.{Normal, normal, fold, normalizeEntries, fitted, normalize}
+use Rattle.normalize_spec.specs.Services.{Normal, normal, fold, normalizeEntries, normalFitted, normalize}
 use Rattle.normalize_spec.specs.Guarantees.{looser, Kept, Counted, Monotone}
 use Rattle.normalize_spec.proofs.Reread.{reread}
 use Rattle.normalize_spec.proofs.Counters.{counted-rewritten, counted-unchanged}
@@ -27,25 +27,25 @@ use Rattle.normalize_spec.proofs.Demand.{spelling-unchanged, fold-accep
 -- ---- what an accepted normalization wrote
 
 -- Either none is folded and the text is returned, or some segment is folded, no step is bad and the text is rewritten.
-pub data Answer (text : List ℕ) (cap : ℕ) (es : List Entry) : List ℕ → Stats → Type 0 where
-  returned : isEmpty (folded es cap) ≡ true → Answer text cap es text (unchanged es)
-  rewrote : isEmpty (folded es cap) ≡ false → badStep es (paths es) ≡ none → Answer text cap es (rewritten es cap) (rewrittenStats es cap)
+pub data AcceptedAs (text : List ℕ) (cap : ℕ) (es : List Entry) : List ℕ → Stats → Type 0 where
+  returned : isEmpty (folded es cap) ≡ true → AcceptedAs text cap es text (unchanged es)
+  rewrote : isEmpty (folded es cap) ≡ false → badStep es (paths es) ≡ none → AcceptedAs text cap es (rewritten es cap) (rewrittenStats es cap)
 
 -- a refusal is no answer
 pub not-normal : {r : Refusal} {output : List ℕ} {st : Stats} → Normal.refusal r ≡ normal output st → ⊥
 not-normal e = let z : _≡_ {A = ℕ} 0 1 = cc in omega arith
 
 -- an answer that is given is the one at hand
-given : {text : List ℕ} {cap : ℕ} {es : List Entry} (o : List ℕ) (s : Stats) (output : List ℕ) (st : Stats) → Answer text cap es o s
-    → normal o s ≡ normal output st → Answer text cap es output st
+given : {text : List ℕ} {cap : ℕ} {es : List Entry} (o : List ℕ) (s : Stats) (output : List ℕ) (st : Stats) → AcceptedAs text cap es o s
+    → normal o s ≡ normal output st → AcceptedAs text cap es output st
 given o s output st a e =
     let same-text : o ≡ output = cc in
     let same-stats : s ≡ st = cc in
     rw (same-text, same-stats) at a
 
 -- what fits was the answer, and had room
-fitted-normal : (room : ℕ) (n : Normal) (output : List ℕ) (st : Stats) → fitted room n ≡ normal output st → (n ≡ normal output st) × (length output ≤ room)
-unfolding fitted
+fitted-normal : (room : ℕ) (n : Normal) (output : List ℕ) (st : Stats) → normalFitted room n ≡ normal output st → (n ≡ normal output st) × (length output ≤ room)
+unfolding normalFitted
 fitted-normal room (Normal.refusal r) output st e = absurd (not-normal e)
 fitted-normal room (normal o s) output st e =
     by-test (ltb room (length o))
@@ -54,7 +54,7 @@ fitted-normal room (normal o s) output st e =
 
 -- a folding that was accepted
 fold-normal : (text : List ℕ) (cap : ℕ) (es : List Entry) (output : List ℕ) (st : Stats) (o : Option Refusal) → isEmpty (folded es cap) ≡ false
-    → badStep es (paths es) ≡ o → fold es cap o ≡ normal output st → Answer text cap es output st
+    → badStep es (paths es) ≡ o → fold es cap o ≡ normal output st → AcceptedAs text cap es output st
 unfolding fold
 fold-normal text cap es output st (some r) some-folded b e = absurd (not-normal e)
 fold-normal text cap es output st none some-folded b e =
@@ -62,7 +62,7 @@ fold-normal text cap es output st none some-folded b e =
 
 -- the answer to admitted entries
 pub entries-answer : (text : List ℕ) (cap : ℕ) (es : List Entry) (output : List ℕ) (st : Stats) → normalizeEntries text cap (entries es) ≡ normal output st
-    → Answer text cap es output st
+    → AcceptedAs text cap es output st
 unfolding normalizeEntries
 entries-answer text cap es output st e =
     by-test (isEmpty (folded es cap))
@@ -70,7 +70,7 @@ entries-answer text cap es output st e =
     (λ h. fold-normal text cap es output st (badStep es (paths es)) h refl (rw h at e))
 
 -- and back
-pub answer-entries : (text : List ℕ) (cap : ℕ) (es : List Entry) (output : List ℕ) (st : Stats) → Answer text cap es output st
+pub answer-entries : (text : List ℕ) (cap : ℕ) (es : List Entry) (output : List ℕ) (st : Stats) → AcceptedAs text cap es output st
     → normalizeEntries text cap (entries es) ≡ normal output st
 unfolding normalizeEntries
 answer-entries text cap es output st (returned none-folded) = rw none-folded
@@ -78,7 +78,7 @@ answer-entries text cap es output st (rewrote some-folded good) = rw some-folded
 
 -- an input that is answered is admitted
 input-normal : (text : List ℕ) (cap : ℕ) (i : Input) (output : List ℕ) (st : Stats) → normalizeEntries text cap i ≡ normal output st
-    → (es : List Entry) × (i ≡ entries es) × Answer text cap es output st
+    → (es : List Entry) × (i ≡ entries es) × AcceptedAs text cap es output st
 unfolding normalizeEntries
 input-normal text cap (Input.refusal r) output st e = absurd (not-normal e)
 input-normal text cap (entries es) output st e = (es, refl, entries-answer text cap es output st e)
@@ -86,7 +86,7 @@ input-normal text cap (entries es) output st e = (es, refl, entries-answer text 
 -- What an accepted normalization says: its text was admitted, its output answers it, and there was room.
 pub record Accepted (text : List ℕ) (cap room work : ℕ) (output : List ℕ) (st : Stats) (es : List Entry) : Type 0 where
   pub admitted : Admitted text work es
-  pub answer : Answer text cap es output st
+  pub answer : AcceptedAs text cap es output st
   pub roomy : length output ≤ room
 
 -- an accepted normalization
@@ -101,7 +101,7 @@ normalize-accepted text cap room work output st e =
 -- and such a normalization is accepted
 pub normalize-accepts : (text : List ℕ) (cap room work : ℕ) (output : List ℕ) (st : Stats) (es : List Entry) → Accepted text cap room work output st es
     → normalize text cap room work ≡ normal output st
-unfolding normalize fitted
+unfolding normalize normalFitted
 normalize-accepts text cap room work output st es a =
     rw (entries-input text work es (a .admitted), answer-entries text cap es output st (a .answer), le-ltb room (length output) (a .roomy))
 
@@ -113,13 +113,13 @@ rule-3 text cap room work es a none-folded roomy = normalize-accepts text cap ro
 -- ---- the third demand
 
 -- What an accepted normalization keeps, with its counters, of entries and of the entries of its output.
-pub record Normalized (es : List Entry) (cap : ℕ) (output : List ℕ) (st : Stats) (after : List Entry) : Type 0 where
+pub record Guaranteed (es : List Entry) (cap : ℕ) (output : List ℕ) (st : Stats) (after : List Entry) : Type 0 where
   pub kept : Kept es cap output after
   pub counted : Counted es after st
 
 -- every answer keeps the third demand
-answer-sound : (text : List ℕ) (cap work : ℕ) (es : List Entry) (output : List ℕ) (st : Stats) → Admitted text work es → Answer text cap es output st
-    → (after : List Entry) × Normalized es cap output st after
+answer-sound : (text : List ℕ) (cap work : ℕ) (es : List Entry) (output : List ℕ) (st : Stats) → Admitted text work es → AcceptedAs text cap es output st
+    → (after : List Entry) × Guaranteed es cap output st after
 answer-sound text cap work es output st a (returned none-folded) =
     (es, record { kept = kept-unchanged es cap text none-folded (a .clean) (a .reads); counted = counted-unchanged es })
 answer-sound text cap work es output st a (rewrote some-folded good) =
@@ -128,7 +128,7 @@ answer-sound text cap work es output st a (rewrote some-folded good) =
 
 -- an accepted normalization keeps the third demand, and counts what it wrote
 pub normalize-sound : (text : List ℕ) (cap room work : ℕ) (output : List ℕ) (st : Stats) → normalize text cap room work ≡ normal output st
-    → (es : List Entry) × (parse text ≡ parsed es) × (after : List Entry) × Normalized es cap output st after
+    → (es : List Entry) × (parse text ≡ parsed es) × (after : List Entry) × Guaranteed es cap output st after
 normalize-sound text cap room work output st e =
     let (es, a) = normalize-accepted text cap room work output st e in
     let (after, s) = answer-sound text cap work es output st (a .admitted) (a .answer) in
@@ -143,7 +143,7 @@ normalize-keeps text cap room work output st e =
 
 -- whatever the entries of the text and of the output are, they are those
 normalize-of : (text : List ℕ) (cap room work : ℕ) (output : List ℕ) (st : Stats) → normalize text cap room work ≡ normal output st
-    → (es after : List Entry) → parse text ≡ parsed es → parse output ≡ parsed after → Normalized es cap output st after
+    → (es after : List Entry) → parse text ≡ parsed es → parse output ≡ parsed after → Guaranteed es cap output st after
 normalize-of text cap room work output st e es after reads rereads =
     let (ds, reads′, after′, s) = normalize-sound text cap room work output st e in
     let same-input : ds ≡ es = cc in

@@ -20,16 +20,16 @@ use Rattle.gfa_spec.proofs.Admission.{Admitted, InputRefuses, input-refused, re
 use Rattle.gfa_spec.specs.Services.{badStep}
 use Rattle.normalize_spec.specs.Folding.{folded}
 use Rattle.normalize_spec.specs.Counting.{Stats}
-use Rattle.normalize_spec.specs.Services.{Normal, normal, fold, normalizeEntries, fitted, normalize}
+use Rattle.normalize_spec.specs.Services.{Normal, normal, fold, normalizeEntries, normalFitted, normalize}
 use Rattle.normalize_spec.proofs.Demand.{spelling-unchanged}
-use Rattle.normalize_spec.proofs.Service.{Answer, not-normal, entries-answer, answer-entries}
+use Rattle.normalize_spec.proofs.Service.{AcceptedAs, not-normal, entries-answer, answer-entries}
 
 -- Why a normalization is refused: 1 to 17 before anything is folded; 18 or 19 where some segment is folded; 22 where the answer has no room.
 pub data Refuses (text : List ℕ) (cap room work : ℕ) : Refusal → Type 0 where
   bad-input : {r : Refusal} → InputRefuses text work r → Refuses text cap room work r
   bad-step : {r : Refusal} (es : List Entry) → Admitted text work es → isEmpty (folded es cap) ≡ false → badStep es (paths es) ≡ some r
       → Refuses text cap room work r
-  no-room : (es : List Entry) (output : List ℕ) (st : Stats) → Admitted text work es → Answer text cap es output st → room < length output
+  no-room : (es : List Entry) (output : List ℕ) (st : Stats) → Admitted text work es → AcceptedAs text cap es output st → room < length output
       → Refuses text cap room work (plainly 22)
 
 module _ (text : List ℕ) (cap room work : ℕ) (r : Refusal) where
@@ -55,8 +55,8 @@ module _ (text : List ℕ) (cap room work : ℕ) (r : Refusal) where
       (λ h. fold-refused es (badStep es (paths es)) (input-entries text work es i) h refl (rw h at e))
 
   -- an answer with no room
-  unfitted : (i : Input) (n : Normal) → input text work ≡ i → normalizeEntries text cap i ≡ n → fitted room n ≡ Normal.refusal r → Refuses text cap room work r
-  unfolding fitted normalizeEntries
+  unfitted : (i : Input) (n : Normal) → input text work ≡ i → normalizeEntries text cap i ≡ n → normalFitted room n ≡ Normal.refusal r → Refuses text cap room work r
+  unfolding normalFitted normalizeEntries
   unfitted i (Normal.refusal q) j k e = input-unanswered i j (k ∙ e)
   unfitted (Input.refusal q) (normal output st) j k e = absurd (not-normal k)
   unfitted (entries es) (normal output st) j k e =
@@ -71,7 +71,7 @@ module _ (text : List ℕ) (cap room work : ℕ) (r : Refusal) where
 
 -- and under its condition it is refused
 pub refused-normalize : (text : List ℕ) (cap room work : ℕ) {r : Refusal} → Refuses text cap room work r → normalize text cap room work ≡ Normal.refusal r
-unfolding normalize normalizeEntries fold fitted
+unfolding normalize normalizeEntries fold normalFitted
 refused-normalize text cap room work (bad-input h) = rw (refused-input text work h)
 refused-normalize text cap room work (bad-step es a some-folded b) = rw (entries-input text work es a, some-folded, b)
 refused-normalize text cap room work (no-room es output st a answer less) = rw (entries-input text work es a, answer-entries text cap es output st answer, lt-ltb room (length output) less)
@@ -96,8 +96,8 @@ entries-numbered text cap (Input.refusal r) h = (omega arith, inl (omega arith))
 entries-numbered text cap (entries es) h = by-test (isEmpty (folded es cap)) (λ e. rw e tt) (λ e. rw e (fold-numbered es cap (badStep es (paths es)) refl))
 
 -- the room for the answer
-fitted-numbered : (room : ℕ) (n : Normal) → Numbered n → Numbered (fitted room n)
-unfolding fitted plainly
+fitted-numbered : (room : ℕ) (n : Normal) → Numbered n → Numbered (normalFitted room n)
+unfolding normalFitted plainly
 fitted-numbered room (Normal.refusal r) h = h
 fitted-numbered room (normal output st) h = by-test (ltb room (length output)) (λ e. rw e (omega arith, inr refl)) (λ e. rw e tt)
 

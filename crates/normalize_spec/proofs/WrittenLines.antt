@@ -178,13 +178,13 @@ w-read ids p q steps sample index name start end old tags k f e h g good plain =
     (r .0, line-parsed l ids ∙ rw (line-field l 0, long, r .1, line-fields l), r .2)
 
 -- steps that a line of the kind can hold
-abbrev pub Writable : Kind → NewStep → Type 0
-Writable P = PStep
-Writable W = WStep
+abbrev pub StepWritable : Kind → NewStep → Type 0
+StepWritable P = PStep
+StepWritable W = WStep
 
 -- the line of a path with the fields of its kind
 shaped-read : (ids : List (List ℕ)) (p : Part) (q : Path) (steps : List NewStep) → Shaped q → Each (Lacks 9) (q .fields)
-    → Each (Writable (q .kind)) steps → Each (Plain NoTab) steps → p .bytes ≡ pathLine q steps
+    → Each (StepWritable (q .kind)) steps → Each (Plain NoTab) steps → p .bytes ≡ pathLine q steps
     → ReadAs ids p (q .kind) (withSteps (q .kind) steps (q .fields)) steps
 unfolding replace withSteps
 shaped-read ids p q steps (shaped-p name old overlaps tags past) h good plain e =
@@ -196,7 +196,7 @@ shaped-read ids p q steps (shaped-w sample index name start end old tags past) h
 
 -- the line of a path that was read, written with new steps, is read as that path with the new steps
 pub path-read : (ids too : List (List ℕ)) (line p : Part) (q : Path) (steps : List NewStep) → parseLine ids line ≡ accepted (path q)
-    → Each (Writable (q .kind)) steps → Each (Plain NoTab) steps → p .bytes ≡ pathLine q steps
+    → Each (StepWritable (q .kind)) steps → Each (Plain NoTab) steps → p .bytes ≡ pathLine q steps
     → ReadAs too p (q .kind) (withSteps (q .kind) steps (q .fields)) steps
 path-read ids too line p q steps a good plain e =
     let h = line-holds ids line (path q) a in
@@ -205,12 +205,12 @@ path-read ids too line p q steps a good plain e =
 
 -- the steps of a path that was read can be written again
 pub path-writable : (ids : List (List ℕ)) (line : Part) (fs : List Part) (q : Path) → Holds ids line fs (path q)
-    → Each (Writable (q .kind)) (map asNew (q .steps))
+    → Each (StepWritable (q .kind)) (map asNew (q .steps))
 path-writable ids line fs q (is-p steps letter long a) = psteps-writable (nth 2 fs nowhere) steps a
 path-writable ids line fs q (is-w steps letter long a) = wsteps-writable (nth 6 fs nowhere) steps a
 
 -- such steps have orientations
-writable-oriented : (k : Kind) (s : NewStep) → Writable k s → isOrientation (s .orientation) ≡ true
+writable-oriented : (k : Kind) (s : NewStep) → StepWritable k s → isOrientation (s .orientation) ≡ true
 writable-oriented P s h = h .oriented
 writable-oriented W s h = h .oriented
 
@@ -220,5 +220,5 @@ pub path-plain : (B : ℕ → Type 0) (ids : List (List ℕ)) (line : Part) (fs 
 unfolding asNew
 path-plain B ids line fs q h k =
     each-implies (λ s g. record { oriented = writable-oriented (q .kind) s (g .0); bytes = g .1 }) (map asNew (q .steps))
-    (each-both (Writable (q .kind)) (λ s. Each B (s .name)) (map asNew (q .steps)) (path-writable ids line fs q k)
+    (each-both (StepWritable (q .kind)) (λ s. Each B (s .name)) (map asNew (q .steps)) (path-writable ids line fs q k)
     (each-map (λ s. Each B (s .name)) asNew (q .steps) (path-names-bytes B ids line fs q h k)))

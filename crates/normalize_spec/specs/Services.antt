@@ -59,10 +59,10 @@ normalizeEntries text cap (Input.refusal r) = Normal.refusal r
 normalizeEntries text cap (entries es) = cond (isEmpty (folded es cap)) (normal text (unchanged es)) (fold es cap (badStep es (paths es)))
 
 -- 22: the output buffer is shorter than the answer
-unfoldable pub fitted : ℕ → Normal → Normal
-fitted room (Normal.refusal r) = Normal.refusal r
-fitted room (normal text st) = cond (ltb room (length text)) (Normal.refusal (plainly 22)) (normal text st)
+unfoldable pub normalFitted : ℕ → Normal → Normal
+normalFitted room (Normal.refusal r) = Normal.refusal r
+normalFitted room (normal text st) = cond (ltb room (length text)) (Normal.refusal (plainly 22)) (normal text st)
 
 -- the service: a text, the cap, the length of the output buffer, and of the work area in words
 unfoldable pub normalize : List ℕ → ℕ → ℕ → ℕ → Normal
-normalize text cap room work = fitted room (normalizeEntries text cap (input text work))
+normalize text cap room work = normalFitted room (normalizeEntries text cap (input text work))

@@ -12,7 +12,7 @@ use lib.ListN.{length, getD}
 use lib.Seq.{sets, length-sets}
 use borrow.Author.Tests.{eq-eqb, ne-eqb}
 use Rattle.work.specs.Rows.{rowsAt, span, Only}
-use Rattle.work.proofs.Rows.{Kept, only-put, only-kept, rows-snoc, rows-length}
+use Rattle.work.proofs.Rows.{KeptWords, only-put, only-kept, rows-snoc, rows-length}
 use Rattle.work.proofs.Stores.{sets-here, sets-first}
 use Rattle.work.proofs.RowCuts.{rows-split, rows-all, rows-cons, rows-none}
 use Rattle.tables.specs.declared.tables.Bases.{Bases}
@@ -97,7 +97,7 @@ module _ {w w' : List ℕ} {g : Layout} where
 -- ---- rows that are kept
 
 -- by their words
-pub segments-words : {w w' : List ℕ} (g : Layout) (q : ℕ) → Kept (g .segs) (g .segs + 4 * q) w w' → SegmentsKept g q w w'
+pub segments-words : {w w' : List ℕ} (g : Layout) (q : ℕ) → KeptWords (g .segs) (g .segs + 4 * q) w w' → SegmentsKept g q w w'
 segments-words g q k =
     record {
       row = λ j h.
@@ -105,11 +105,11 @@ segments-words g q k =
           rw (k .word at (omega arith) (omega arith), k .word (at + 1) (omega arith) (omega arith), k .word (at + 2) (omega arith) (omega arith), k .word (at + 3) (omega arith) (omega arith));
     }
 
-pub steps-words : {w w' : List ℕ} (g : Layout) (t : ℕ) → Kept (g .steps) (g .steps + 2 * t) w w' → StepsKept g t w w'
+pub steps-words : {w w' : List ℕ} (g : Layout) (t : ℕ) → KeptWords (g .steps) (g .steps + 2 * t) w w' → StepsKept g t w w'
 steps-words g t k =
     record { row = λ i h. let at = g .steps + 2 * i in rw (k .word at (omega arith) (omega arith), k .word (at + 1) (omega arith) (omega arith)) }
 
-pub paths-words : {w w' : List ℕ} (g : Layout) (p : ℕ) → Kept (g .paths) (g .paths + 2 * p) w w' → PathsKept g p w w'
+pub paths-words : {w w' : List ℕ} (g : Layout) (p : ℕ) → KeptWords (g .paths) (g .paths + 2 * p) w w' → PathsKept g p w w'
 paths-words g p k =
     record { row = λ i h. let at = g .paths + 2 * i in rw (k .word at (omega arith) (omega arith), k .word (at + 1) (omega arith) (omega arith)) }
 

@@ -4,7 +4,7 @@ use native.Mathlib.Omega.{arith}
 use mathlib.Core.List.{List}
 use mathlib.Core.Path.{_≡_, refl}
 use lib.ListN.{length}
-use Rattle.work.proofs.Rows.{Kept, kept-within, rows-kept}
+use Rattle.work.proofs.Rows.{KeptWords, kept-within, rows-kept}
 use Rattle.tables.specs.declared.tables.Bases.{Bases}
 use Rattle.tables.specs.declared.tables.Counts.{Counts}
 use Rattle.tables.specs.ByNumber.{tablesEnd}
@@ -21,7 +21,7 @@ use Rattle.normalize_tables.proofs.NewsKept.{segment-rows-kept, step-ro
 
 -- ---- steps
 
-module _ {lo hi : ℕ} {w w' : List ℕ} (k : Kept lo hi w w') (names : List (List ℕ)) where
+module _ {lo hi : ℕ} {w w' : List ℕ} (k : KeptWords lo hi w w') (names : List (List ℕ)) where
   pub new-step-kept : (at : ℕ) → lo ≤ at → at + 2 ≤ hi → newStepAt names w' at ≡ newStepAt names w at
   unfolding newStepAt
   new-step-kept at l h = rw (k .word at l (omega arith), k .word (at + 1) (omega arith) (omega arith))
@@ -32,7 +32,7 @@ module _ {lo hi : ℕ} {w w' : List ℕ} (k : Kept lo hi w w') (names : List (Li
 
 -- ---- rows
 
-module _ {w w' : List ℕ} {b : Bases} {n : Counts} {g : Layout} {m : Made} {size : ℕ} (p : Placed b n g size) (k : Kept 0 (g .added) w w') (r : NewRows w n g m) where
+module _ {w w' : List ℕ} {b : Bases} {n : Counts} {g : Layout} {m : Made} {size : ℕ} (p : Placed b n g size) (k : KeptWords 0 (g .added) w w') (r : NewRows w n g m) where
   segments-stay : SegmentsKept g (m .segs) w w'
   segments-stay = segments-words g (m .segs) (kept-within (g .segs) (g .segs + 4 * m .segs) k (omega arith) (omega (arith, r .half)))
 
@@ -57,7 +57,7 @@ module _ {w w' : List ℕ} {b : Bases} {n : Counts} {g : Layout} {m : Made} {siz
 
 -- ---- the tables
 
-module _ {text w w' : List ℕ} {b : Bases} {n : Counts} {g : Layout} (s : Source text w b n g) (k : Kept 0 (g .added) w w') where
+module _ {text w w' : List ℕ} {b : Bases} {n : Counts} {g : Layout} (s : Source text w b n g) (k : KeptWords 0 (g .added) w w') where
   -- the tables of the text are before them
   pub front-kept : TablesKept b n w w'
   front-kept = let p = s .placed in kept-within (b .lines) (tablesEnd b n) k (omega arith) (omega arith)

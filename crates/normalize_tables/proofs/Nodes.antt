@@ -3,7 +3,7 @@ use Prim.Native.Nat.{ℕ, zero, suc, _+_, _*_, _<_}
 use native.Mathlib.Omega.{arith}
 use mathlib.Core.Bool.{true, false, not}
 use mathlib.Core.List.{List, [], _∷_, _++_, map-append, append-assoc}
-use mathlib.Core.Path.{_≡_, refl, _∙_}
+use mathlib.Core.Path.{_≡_, _∙_}
 use lib.Dec.{eqb, eqb·zero-suc, eqb·suc-zero, eqb·suc-suc}
 use lib.ListN.{length, length-append, length-map}
 use borrow.Author.Tests.{not-true}
@@ -20,28 +20,21 @@ use Rattle.normalize_tables.specs.News.{newAt, newsAt, namesAt}
 -- ---- names by their places
 
 -- a name that is not in a list is not the one at a place of it
-absent-at : (x : List ℕ) (xs : List (List ℕ)) (k : ℕ) → any (same x) xs ≡ false → k < length xs → same x (nth k xs []) ≡ false
+pub absent-at : (x : List ℕ) (xs : List (List ℕ)) (k : ℕ) (d : List ℕ) → any (same x) xs ≡ false → k < length xs → same x (nth k xs d) ≡ false
 unfolding any nth
-absent-at x [] k h l = absurd (omega arith)
-absent-at x (y ∷ ys) zero h l = or-left (same x y) (any (same x) ys) h
-absent-at x (y ∷ ys) (suc k) h l = absent-at x ys k (or-right (same x y) (any (same x) ys) h) (omega arith)
+absent-at x [] k d h l = absurd (omega arith)
+absent-at x (y ∷ ys) zero d h l = or-left (same x y) (any (same x) ys) h
+absent-at x (y ∷ ys) (suc k) d h l = absent-at x ys k d (or-right (same x y) (any (same x) ys) h) (omega arith)
 
 -- In a list without repetition two places hold one name exactly if they are one place.
 pub same-place : (xs : List (List ℕ)) (j k : ℕ) → distinct xs ≡ true → j < length xs → k < length xs → same (nth j xs []) (nth k xs []) ≡ eqb j k
 unfolding distinct nth
 same-place [] j k d l m = absurd (omega arith)
 same-place (x ∷ xs) zero zero d l m = same-refl x
-same-place (x ∷ xs) zero (suc k) d l m = rw eqb·zero-suc (absent-at x xs k (not-true (any (same x) xs) (and-left (not (any (same x) xs)) (distinct xs) d)) (omega arith))
+same-place (x ∷ xs) zero (suc k) d l m = rw eqb·zero-suc (absent-at x xs k [] (not-true (any (same x) xs) (and-left (not (any (same x) xs)) (distinct xs) d)) (omega arith))
 same-place (x ∷ xs) (suc j) zero d l m =
-    rw eqb·suc-zero (same-sym (nth j xs []) x ∙ absent-at x xs j (not-true (any (same x) xs) (and-left (not (any (same x) xs)) (distinct xs) d)) (omega arith))
+    rw eqb·suc-zero (same-sym (nth j xs []) x ∙ absent-at x xs j [] (not-true (any (same x) xs) (and-left (not (any (same x) xs)) (distinct xs) d)) (omega arith))
 same-place (x ∷ xs) (suc j) (suc k) d l m = rw eqb·suc-suc (same-place xs j k (and-right (not (any (same x) xs)) (distinct xs) d) (omega arith) (omega arith))
-
--- a place of a list, with another list behind it
-pub nth-front : {A : Type 0} (k : ℕ) (xs ys : List A) (d : A) → k < length xs → nth k (xs ++ ys) d ≡ nth k xs d
-unfolding nth
-nth-front k [] ys d l = absurd (omega arith)
-nth-front zero (x ∷ xs) ys d l = refl
-nth-front (suc k) (x ∷ xs) ys d l = nth-front k xs ys d (omega arith)
 
 -- ---- the IDs of the text and of new segments
 

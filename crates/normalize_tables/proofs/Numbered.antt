@@ -6,29 +6,28 @@ use mathlib.Core.List.{List, [], _∷_, map}
 use mathlib.Core.Option.{Option, none, some, Option·elim, Option·map}
 use mathlib.Core.Path.{_≡_, refl, sym, _∙_}
 use lib.Dec.{eqb, eqb·zero-suc, eqb·suc-zero, eqb·suc-suc}
-use lib.ListN.{length}
+use lib.ListN.{length, length-map}
 use borrow.Author.Tests.{eq-eqb, not-true}
 use Rattle.gfa_spec.specs.Bytes.{part, same, any, nth, distinct}
 use Rattle.gfa_spec.specs.Reading.{Segment}
 use Rattle.gfa_spec.specs.Records.{segmentNumber}
-use Rattle.gfa_spec.proofs.Tests.{by-test, and-left, and-right, or-left, or-right, same-equal, same-sym}
+use Rattle.gfa_spec.proofs.Tests.{by-test, and-left, and-right, same-equal, same-sym}
+use Rattle.gfa_spec.proofs.Each.{nth-map}
 use Rattle.normalize_spec.proofs.Marks.{named}
 use Rattle.work.proofs.Rows.{rows-nth, rows-length}
 use Rattle.tables.specs.declared.segments.Found.{Found}
 use Rattle.tables.specs.declared.segments.Found.the-variants.{At, Nothing}
 use Rattle.tables.specs.Segments.{segmentAt, segmentsAt, idsOf, FoundIs}
 use Rattle.tables.proofs.Numbers.{found-at, found-nothing as nothing-found}
-
--- ---- marks
+use Rattle.normalize_tables.proofs.Nodes.{absent-at}
 
 -- ---- names and numbers
 
 -- a name that no segment has is not that of segment i
-absent-at : (x : List ℕ) (ss : List Segment) (i : ℕ) (d : Segment) → any (same x) (map (λ s. s .id) ss) ≡ false → i < length ss → same (nth i ss d .id) x ≡ false
-unfolding any nth
-absent-at x [] i d h l = absurd (omega arith)
-absent-at x (s ∷ ss) zero d h l = same-sym (s .id) x ∙ or-left (same x (s .id)) (any (same x) (map (λ s. s .id) ss)) h
-absent-at x (s ∷ ss) (suc i) d h l = absent-at x ss i d (or-right (same x (s .id)) (any (same x) (map (λ s. s .id) ss)) h) (omega arith)
+other-segment : (x : List ℕ) (ss : List Segment) (i : ℕ) (d : Segment) → any (same x) (map (λ s. s .id) ss) ≡ false → i < length ss → same (nth i ss d .id) x ≡ false
+other-segment x ss i d h l =
+    let ids = map (λ s. s .id) ss in
+    same-sym (nth i ss d .id) x ∙ (rw (nth-map (λ s. s .id) i ss d) at (absent-at x ids i (d .id) h (rw length-map l)))
 
 first-number : (o : Option ℕ) → Option·elim (Option·map suc o) false (eqb 0) ≡ false
 unfolding Option·elim
@@ -53,7 +52,7 @@ number-says (s ∷ ss) name (suc i) d u l =
     let ids = map (λ s. s .id) ss in
     let alone = not-true (any (same (s .id)) ids) (and-left (not (any (same (s .id)) ids)) (distinct ids) u) in
     by-test (same (s .id) name)
-    (λ e. rw (e, ← same-equal (s .id) name e, absent-at (s .id) ss i d alone (omega arith)) (unfold Option·elim in sym (eqb·suc-zero i)))
+    (λ e. rw (e, ← same-equal (s .id) name e, other-segment (s .id) ss i d alone (omega arith)) (unfold Option·elim in sym (eqb·suc-zero i)))
     (λ e. rw (e, next-number (segmentNumber ss name) i) (number-says ss name i d (and-right (not (any (same (s .id)) ids)) (distinct ids) u) (omega arith)))
 
 -- ---- what a search found

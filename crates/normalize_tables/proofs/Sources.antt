@@ -5,7 +5,7 @@ use mathlib.Core.List.{List}
 use mathlib.Core.Bool.{Bool}
 use mathlib.Core.Path.{_≡_, _∙_}
 use lib.ListN.{length}
-use Rattle.work.proofs.Rows.{Kept}
+use Rattle.work.proofs.Rows.{KeptWords}
 use Rattle.tables.specs.declared.tables.Bases.{Bases}
 use Rattle.tables.specs.declared.tables.Counts.{Counts}
 use Rattle.gfa_spec.specs.Reading.{Segment}
@@ -17,7 +17,7 @@ use Rattle.normalize_tables.specs.declared.layout.Layout.{Layout}
 use Rattle.normalize_tables.specs.Layout.{Source}
 use Rattle.normalize_tables.specs.Marks.{Marked}
 
-module _ {text w w' : List ℕ} {b : Bases} {n : Counts} {g : Layout} (s : Source text w b n g) (k : Kept (b .lines) (b .steps + 3 * n .steps) w w') where
+module _ {text w w' : List ℕ} {b : Bases} {n : Counts} {g : Layout} (s : Source text w b n g) (k : KeptWords (b .lines) (b .steps + 3 * n .steps) w w') where
   -- the tables say the same
   pub standing : Standing text w w' b n
   standing = tables-stand (s .readable .laid) (s .readable .sound) k
@@ -37,7 +37,7 @@ module _ {text w w' : List ℕ} {b : Bases} {n : Counts} {g : Layout} (s : Sourc
       }
 
 -- marks stay where they and the tables of the text do
-pub marked-stands : {p : Segment → Bool} {text w w' : List ℕ} {b : Bases} {n : Counts} {g : Layout} {hi : ℕ} (base : ℕ) → Source text w b n g → Kept 0 hi w w'
+pub marked-stands : {p : Segment → Bool} {text w w' : List ℕ} {b : Bases} {n : Counts} {g : Layout} {hi : ℕ} (base : ℕ) → Source text w b n g → KeptWords 0 hi w w'
     → b .steps ≤ hi → base + n .segs ≤ hi → Marked p text w b n base → Marked p text w' b n base
 marked-stands {text = text} {b = b} base s k t h q =
     let l = s .readable .laid in

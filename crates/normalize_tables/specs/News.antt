@@ -51,8 +51,8 @@ unfoldable pub firstNumber : List Segment → ℕ
 firstNumber ss = firstOf (noneMade ss .next)
 
 -- the ID of new segment j: the j-th number from the first on while that may be used, else the name of its unit and run length with a suffix
-unfoldable pub idOf : ℕ → ℕ → List ℕ → ℕ → ℕ → List ℕ
-idOf first j unit count suffix = cond (ltb (first + j) largest64) (decimal (first + j)) (newName unit count suffix)
+unfoldable pub newIdOf : ℕ → ℕ → List ℕ → ℕ → ℕ → List ℕ
+newIdOf first j unit count suffix = cond (ltb (first + j) largest64) (decimal (first + j)) (newName unit count suffix)
 
 -- the new segment that words stand for
 abbrev pub newOf : List ℕ → List ℕ → Bases → ℕ → ℕ → NewSegmentWords → New
@@ -60,7 +60,7 @@ newOf text work b first j r =
     record {
       unit = segmentNo text work b (r .unit .0) .id;
       count = r .count;
-      id = idOf first j (segmentNo text work b (r .unit .0) .id) (r .count) (r .suffix);
+      id = newIdOf first j (segmentNo text work b (r .unit .0) .id) (r .count) (r .suffix);
       sequence = repeat (r .count) (segmentNo text work b (r .unit .0) .sequence);
     }
 

@@ -1,5 +1,5 @@
 -- The search for a bad byte. Assumes nothing.
-use Prim.Native.Nat.{ℕ, suc, _+_, _*_, _≤_, _<_}
+use Prim.Native.Nat.{ℕ, suc, _+_, _≤_, _<_}
 use native.Mathlib.Numerals.{add-one}
 use native.Mathlib.Omega.{arith}
 use mathlib.Core.List.{List, [], _∷_}
@@ -8,7 +8,6 @@ use mathlib.Core.Path.{_≡_, _∙_}
 use lib.ListN.{length, getD}
 use lib.Seq.{slice, slice-cons, slice-empty, take-length}
 use borrow.Author.Tests.{le-leb, lt-leb, ne-eqb}
-use Rattle.reader.specs.declared.input.Bad.{Bad}
 use Rattle.reader.specs.declared.input.Bad.the-variants as bad
 use Rattle.gfa_spec.specs.Calls.{atPlace, badByte}
 use Rattle.reader.specs.Inputs.{BadIs}

@@ -17,7 +17,7 @@ use Rattle.gfa_spec.specs.Bytes.{one, nil, sum}
 use Rattle.gfa_spec.specs.Reading.{Entry, choose, lines, parse, parseLines}
 use Rattle.gfa_spec.specs.Records.{segments, links, paths, collect}
 use Rattle.gfa_spec.specs.Runs.{overPaths, stepCount}
-use Rattle.scan.specs.Places.{linesAt, partAt, LineIs}
+use Rattle.scan.specs.Places.{linesAt, partAt, NextLineIs}
 use Rattle.work.specs.Rows.{rowsAt, EachRow, Only}
 use Rattle.tables.specs.Tables.{Few, noRows, share, rowsOf, Laid, Sound}
 use Rattle.tables.specs.Segments.{segmentAt, segmentsAt, idsOf, SegmentRow}
@@ -115,7 +115,7 @@ module _ (text w : List ℕ) (b : Bases) (n m : Counts) where
   new-fits (Other l) e h = h
 
 -- The tables with the line's entry.
-record Grown (text work work' : List ℕ) (b : Bases) (n m : Counts) (e : Entry) : Type 0 where
+record EntryAdded (text work work' : List ℕ) (b : Bases) (n m : Counts) (e : Entry) : Type 0 where
   pub entries : entriesAt text work' b (m .lines) ≡ entriesAt text work b (n .lines) ++ (e ∷ [])
   pub of-segments : segmentsAt text work' (b .segs) (m .segs) ≡ segmentsAt text work (b .segs) (n .segs) ++ segments (e ∷ [])
   pub of-links : linksAt text work' (b .links) (m .links) ≡ linksAt text work (b .links) (n .links) ++ links (e ∷ [])
@@ -124,7 +124,7 @@ record Grown (text work work' : List ℕ) (b : Bases) (n m : Counts) (e : Entry)
 
 module _ {text work work' : List ℕ} {b : Bases} {n m : Counts} {start size : ℕ} {r : Record} (z : Entered text work work' b n start size r m)
     (held : recordAt work' (b .lines + 3 * n .lines) ≡ r) (t : RowsKept b n work work') (s : Sound text work b n) where
-  grown : Grown text work work' b n m (entryOf text work' b r)
+  grown : EntryAdded text work work' b n m (entryOf text work' b r)
   unfolding entriesAt entryAt segmentsAt linksAt pathsAt
   grown =
       let new = z .row in
@@ -243,7 +243,7 @@ module _ {text first : List ℕ} {b : Bases} where
               };
         }
 
-    module _ {start size next : ℕ} (l : LineIs text at start size next) where
+    module _ {start size next : ℕ} (l : NextLineIs text at start size next) where
       pub progress-ready : Ready text work b n start size
       unfolding total partAt
       progress-ready =

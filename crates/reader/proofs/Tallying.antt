@@ -9,7 +9,7 @@ use lib.ListN.{length, getD}
 use borrow.Author.Tests.{ne-eqb}
 use Rattle.tables.specs.declared.tables.Counts.{Counts}
 use Rattle.gfa_spec.specs.Reading as reading
-use Rattle.scan.specs.Places.{linesAt, partAt, LineIs}
+use Rattle.scan.specs.Places.{linesAt, partAt, NextLineIs}
 use Rattle.reader.specs.Outcomes.{Roomy}
 use Rattle.lines.specs.Room.{starting, segsIn, linksIn, pathsIn, total, TallyIs, LineTally}
 use Rattle.gfa_spec.specs.Bytes.{part}
@@ -76,7 +76,7 @@ module _ {text : List ℕ} {at : ℕ} {n : Counts} (s : Counting text at n) wher
   pub counting-few : length text ≤ 1048576 → Few n
   counting-few h = let f = lines-sum (reading.lines text) in let w = weight-text text in omega arith
 
-  pub counting-more : {start size next : ℕ} {m : Counts} → LineIs text at start size next → LineTally text start size n m → Counting text next m
+  pub counting-more : {start size next : ℕ} {m : Counts} → NextLineIs text at start size next → LineTally text start size n m → Counting text next m
   unfolding total partAt
   counting-more l t =
       let f = l .first in

@@ -17,7 +17,7 @@ use Rattle.gfa_spec.proofs.Counting.{bit-small, count-one, count-append}
 use Rattle.normalize_spec.specs.Folding.{NewStep, sameNewNode}
 use Rattle.normalize_spec.specs.Links.{Key, adjacent, missing}
 use Rattle.work.specs.Rows.{rowsAt, span, Only}
-use Rattle.work.proofs.Rows.{Kept, only-none, only-then, only-kept, kept-within, rows-snoc, rows-kept, each-kept, each-more, each-none}
+use Rattle.work.proofs.Rows.{KeptWords, only-none, only-then, only-kept, kept-within, rows-snoc, rows-kept, each-kept, each-more, each-none}
 use Rattle.work.proofs.Filling.{only-set}
 use Rattle.writers.proofs.Joining.{join-last}
 use Rattle.tables.specs.declared.tables.Bases.{Bases}
@@ -35,7 +35,7 @@ use Rattle.normalize_tables.proofs.NewByNumber.{new-paths-more, new-steps-next,
 use Rattle.normalize_tables.proofs.NewsStand.{new-step-kept, front-kept}
 use Rattle.relink.specs.declared.lookup.Pair.{Pair}
 use Rattle.relink.specs.declared.pairs.Tally.{Tally}
-use Rattle.relink.specs.Relinking.{AddedRows, Ended, pairNo, PairIs, LinkFound, withLink, isLoop, Adds, Grows, PairAdded, PathAdded, noneAdded, PathsAdded}
+use Rattle.relink.specs.Relinking.{AddedRows, Ended, pairNo, PairIs, LinkFound, withLink, isLoop, AddsLinks, Grows, PairAdded, PathAdded, noneAdded, PathsAdded}
 use Rattle.link_ends.specs.LinkEnds.{Relinkable}
 use Rattle.link_ends.proofs.Endings.{relinkable-stands, ends-kept}
 use Rattle.relink.proofs.Lookups.{pair-key}
@@ -44,10 +44,10 @@ use Rattle.relink.proofs.Lookups.{pair-key}
 
 module _ {text w w' : List ℕ} {b : Bases} {n : Counts} {g : Layout} {m : Made} (s : Relinkable text w b n g m) (o : Only (span (g .added) (g .added + n .steps) ∷ []) w w') where
   -- the words before the added links, and those behind them
-  pub before-kept : Kept 0 (g .added) w w'
+  pub before-kept : KeptWords 0 (g .added) w w'
   before-kept = only-kept 0 (g .added) o (inl (omega arith), tt)
 
-  behind-kept : Kept (g .ends) (g .ends + 3 * n .links) w w'
+  behind-kept : KeptWords (g .ends) (g .ends + 3 * n .links) w w'
   behind-kept = let p = s .source .placed in only-kept (g .ends) (g .ends + 3 * n .links) o (inr (omega arith), tt)
 
   links-same : linksTo text w' b (n .links) ≡ linksTo text w b (n .links)
@@ -98,12 +98,12 @@ module _ {w v u : List ℕ} {n : Counts} {g : Layout} {m : Made} {s t r : Tally}
 
 module _ {text : List ℕ} {names : List (List ℕ)} {fs : List Segment} {w v u : List ℕ} {b : Bases} {n : Counts} {g : Layout} {s t r : Tally} where
   -- the first of the pairs that are left are added
-  adds-then : {ks ls : List Key} (qs rest : List Key) → ls ≡ qs ++ rest → Adds text names fs w v b n g s t ks ls → Adds text names fs v u b n g t r qs []
-      → Adds text names fs w u b n g s r ks rest
+  adds-then : {ks ls : List Key} (qs rest : List Key) → ls ≡ qs ++ rest → AddsLinks text names fs w v b n g s t ks ls → AddsLinks text names fs v u b n g t r qs []
+      → AddsLinks text names fs w u b n g s r ks rest
   adds-then qs rest e a c = record { all = λ more. a .all more ∙ rw (e, append-assoc) (c .all (rest ++ more)); loops = λ h. c .loops (a .loops h) }
 
   -- more pairs are added
-  adds-more : {ks : List Key} (qs : List Key) → Adds text names fs w v b n g s t ks [] → Adds text names fs v u b n g t r qs [] → Adds text names fs w u b n g s r (ks ++ qs) []
+  adds-more : {ks : List Key} (qs : List Key) → AddsLinks text names fs w v b n g s t ks [] → AddsLinks text names fs v u b n g t r qs [] → AddsLinks text names fs w u b n g s r (ks ++ qs) []
   adds-more qs a c = record { all = λ more. rw append-assoc (a .all (qs ++ more) ∙ c .all more); loops = λ h. c .loops (a .loops h) }
 
 -- ---- a pair
@@ -216,7 +216,7 @@ pub record Pairing (text before work : List ℕ) (b : Bases) (n : Counts) (g : L
   pub room : s .added + (end - first) ≤ n .steps
   pub loops : s .loops ≤ s .added
   pub adds : (names : List (List ℕ)) (fs : List Segment) → Ended text names fs before b n g m
-      → Adds text names fs before work b n g s now (adjacent (newStepsFrom names before g first end)) (adjacent (newStepsFrom names before g k end))
+      → AddsLinks text names fs before work b n g s now (adjacent (newStepsFrom names before g first end)) (adjacent (newStepsFrom names before g k end))
   pub grows : Grows before work n g m s now (k - first)
 
 module _ {text before : List ℕ} {b : Bases} {n : Counts} {g : Layout} {m : Made} {s : Tally} {first end : ℕ} where
@@ -304,7 +304,7 @@ pub record Passing (text before work : List ℕ) (b : Bases) (n : Counts) (g : L
   pub high : p ≤ n .paths
   pub few : s .added ≤ stepsTo (nodes text before b n g m) before g p
   pub adds : (names : List (List ℕ)) (fs : List Segment) → Ended text names fs before b n g m
-      → Adds text names fs before work b n g noneAdded s (join (map adjacent (newPathsTo names before g p))) []
+      → AddsLinks text names fs before work b n g noneAdded s (join (map adjacent (newPathsTo names before g p))) []
   pub grows : Grows before work n g m noneAdded s (m .steps)
 
 module _ {text before : List ℕ} {b : Bases} {n : Counts} {g : Layout} {m : Made} where

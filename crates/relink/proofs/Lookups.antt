@@ -28,7 +28,7 @@ use Rattle.normalize_tables.specs.NewByNumber.{stepIs, stepIn}
 use Rattle.normalize_tables.proofs.Nodes.{same-place}
 use Rattle.link_ends.specs.declared.ends.Ends.{Ends}
 use Rattle.relink.specs.declared.lookup.Pair.{Pair}
-use Rattle.relink.specs.Relinking.{AddedRows, Ended, pairNo, keyIn, PairIs, PairThere, keptKeys, pairIs, nodesAre, marksAre, LinkMatch, KeptIs, AddedIs, LinkFound}
+use Rattle.relink.specs.Relinking.{AddedRows, Ended, pairNo, keyIn, PairIs, PairThere, keptKeys, pairIs, nodesAre, marksAre, LinkMatch, KeptIs, AddedMatch, LinkFound}
 use Rattle.link_ends.specs.LinkEnds.{Relinkable, endsNo}
 use Rattle.link_ends.proofs.Places.{place-says}
 use Rattle.work.specs.Rows.{wordOf}
@@ -188,10 +188,10 @@ module _ {text work : List ℕ} {b : Bases} {n : Counts} {g : Layout} {m : Made}
       comparing-more f =
           record { relinkable = s .relinkable; rows = s .rows; there = s .there; high = omega arith; left = λ names d l. first-added names d l ∙ rw f }
 
-      pub comparing-hit : r ≡ true → AddedIs work n g m added p true
+      pub comparing-hit : r ≡ true → AddedMatch work n g m added p true
       comparing-hit f = record { answer = λ names d l. sym (first-added names d l ∙ rw f) }
 
-    pub comparing-end : added ≤ i → AddedIs work n g m added p false
+    pub comparing-end : added ≤ i → AddedMatch work n g m added p false
     unfolding keysAt any
     comparing-end h = record { answer = λ names d l. sym (s .left names d l ∙ rw (rows-none (keyAt names (g .steps)) 1 work (g .added) added i h)) }
 
@@ -209,7 +209,7 @@ module _ {text work : List ℕ} {b : Bases} {n : Counts} {g : Layout} {m : Made}
   pub found-kept : k ≡ true → LinkFound text work b n g m added p true
   found-kept e = found true (λ names fs d. rw (any-append (sameKey (keyIn names p)) (keptKeys text fs work b (n .links)), ← q .answer names fs d, e))
 
-  pub found-added : {r : Bool} → k ≡ false → AddedIs work n g m added p r → LinkFound text work b n g m added p r
+  pub found-added : {r : Bool} → k ≡ false → AddedMatch work n g m added p r → LinkFound text work b n g m added p r
   found-added {r} e a =
       found r
       (λ names fs d.

@@ -13,7 +13,7 @@ use Rattle.gfa_spec.specs.Records.{isSelfLink}
 use Rattle.gfa_spec.proofs.Tests.{by-test, and-left}
 use Rattle.normalize_spec.specs.Links.{isRemoved, adjacent, missing}
 use Rattle.work.specs.Rows.{rowsAt, span}
-use Rattle.work.proofs.Rows.{Kept, only-then, only-kept, outside-less}
+use Rattle.work.proofs.Rows.{KeptWords, only-then, only-kept, outside-less}
 use Rattle.tables.specs.declared.tables.Bases.{Bases}
 use Rattle.tables.specs.declared.tables.Counts.{Counts}
 use Rattle.tables.specs.ByNumber.{segmentsOf, linksTo}
@@ -62,14 +62,14 @@ count-few t (l ∷ ls) = by-test (t l) (λ e. rw e (omega (arith, count-few t ls
 module _ {text w v : List ℕ} {b : Bases} {n : Counts} {g : Layout} {m : Made} {removed : ℕ} (s : Relinkable text w b n g m) (a : AllEnds text w v b n g m removed)
     {u : List ℕ} {t : Tally} (c : PathsAdded text v u b n g m t) where
   -- the tables are before the ends
-  ends-front : Kept 0 (g .added) w v
+  ends-front : KeptWords 0 (g .added) w v
   ends-front = let p = s .source .placed in only-kept 0 (g .added) (a .only) (inl (omega arith), tt)
 
   -- no table but those of the links changes
-  all-front : Kept 0 (g .added) w u
+  all-front : KeptWords 0 (g .added) w u
   all-front = record { word = λ i l h. before-kept (a .ready) (c .grows .only) .word i l h ∙ ends-front .word i l h }
 
-  links-of : {x : List ℕ} → Kept 0 (g .added) w x → linksTo text x b (n .links) ≡ linksTo text w b (n .links)
+  links-of : {x : List ℕ} → KeptWords 0 (g .added) w x → linksTo text x b (n .links) ≡ linksTo text w b (n .links)
   links-of k = standing (s .source) (front-kept (s .source) k) .of-links
 
   module _ {all : ℕ} (e : all ≡ count isSelfLink (linksTo text u b (n .links))) where

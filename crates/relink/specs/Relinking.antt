@@ -84,7 +84,7 @@ pub record KeptIs (text work : List ℕ) (b : Bases) (n : Counts) (g : Layout) (
       → r ≡ any (sameKey (keyIn names p)) (keptKeys text fs work b (n .links))
 
 -- An added link has them.
-pub record AddedIs (work : List ℕ) (n : Counts) (g : Layout) (m : Made) (added : ℕ) (p : Pair) (r : Bool) : Type 0 where
+pub record AddedMatch (work : List ℕ) (n : Counts) (g : Layout) (m : Made) (added : ℕ) (p : Pair) (r : Bool) : Type 0 where
   pub answer : (names : List (List ℕ)) → distinct names ≡ true → length names ≡ n .segs + m .segs
       → r ≡ any (sameKey (keyIn names p)) (keysAt names (g .steps) work (g .added) added)
 
@@ -112,7 +112,7 @@ abbrev pub isLoop : Key → Bool
 isLoop k = sameNewNode (k .from) (k .to)
 
 -- Of the pairs `ks` those that are missing are added, and the pairs `left` are left.
-pub record Adds (text : List ℕ) (names : List (List ℕ)) (fs : List Segment) (before work : List ℕ) (b : Bases) (n : Counts) (g : Layout) (s t : Tally) (ks left : List Key) : Type 0 where
+pub record AddsLinks (text : List ℕ) (names : List (List ℕ)) (fs : List Segment) (before work : List ℕ) (b : Bases) (n : Counts) (g : Layout) (s t : Tally) (ks left : List Key) : Type 0 where
   pub all : (more : List Key) → addedWith text names fs before b n g (s .added) (ks ++ more) ≡ addedWith text names fs work b n g (t .added) (left ++ more)
   pub loops : s .loops ≡ count isLoop (keysAt names (g .steps) before (g .added) (s .added)) → t .loops ≡ count isLoop (keysAt names (g .steps) work (g .added) (t .added))
 
@@ -129,14 +129,14 @@ pub record Grows (before work : List ℕ) (n : Counts) (g : Layout) (m : Made) (
 pub record PairAdded (text before work : List ℕ) (b : Bases) (n : Counts) (g : Layout) (m : Made) (s : Tally) (step : ℕ) (r : Tally) : Type 0 where
   pub ready : Relinkable text work b n g m
   pub adds : (names : List (List ℕ)) (fs : List Segment) → Ended text names fs before b n g m
-      → Adds text names fs before work b n g s r (pairNo names before g step ∷ []) []
+      → AddsLinks text names fs before work b n g s r (pairNo names before g step ∷ []) []
   pub grows : Grows before work n g m s r 1
 
 -- The pairs of a new path are.
 pub record PathAdded (text before work : List ℕ) (b : Bases) (n : Counts) (g : Layout) (m : Made) (s : Tally) (first end : ℕ) (r : Tally) : Type 0 where
   pub ready : Relinkable text work b n g m
   pub adds : (names : List (List ℕ)) (fs : List Segment) → Ended text names fs before b n g m
-      → Adds text names fs before work b n g s r (adjacent (newStepsFrom names before g first end)) []
+      → AddsLinks text names fs before work b n g s r (adjacent (newStepsFrom names before g first end)) []
   pub grows : Grows before work n g m s r (end - first)
 
 -- no link is added
@@ -147,7 +147,7 @@ noneAdded = record { added = 0; loops = 0 }
 pub record PathsAdded (text before work : List ℕ) (b : Bases) (n : Counts) (g : Layout) (m : Made) (r : Tally) : Type 0 where
   pub ready : Relinkable text work b n g m
   pub adds : (names : List (List ℕ)) (fs : List Segment) → Ended text names fs before b n g m
-      → Adds text names fs before work b n g noneAdded r (join (map adjacent (newPathsTo names before g (n .paths)))) []
+      → AddsLinks text names fs before work b n g noneAdded r (join (map adjacent (newPathsTo names before g (n .paths)))) []
   pub grows : Grows before work n g m noneAdded r (m .steps)
 
 -- ---- the links

@@ -1,7 +1,7 @@
 // Is there a link of exactly the four parts of a pair of new steps? Nodes are compared by their numbers.
 ghost use mathlib.Core.Path.{_≡_};
 ghost use Prim.Native.Nat.{_+_, _<_};
-ghost use Rattle.relink.specs.Relinking.{AddedRows, PairThere, PairIs, pairIs, nodesAre, marksAre, LinkMatch, KeptIs, AddedIs, LinkFound};
+ghost use Rattle.relink.specs.Relinking.{AddedRows, PairThere, PairIs, pairIs, nodesAre, marksAre, LinkMatch, KeptIs, AddedMatch, LinkFound};
 ghost use Rattle.link_ends.specs.LinkEnds.{Relinkable};
 use link_ends::ends::Ends;
 use link_ends::ends::ends_at;
@@ -95,7 +95,7 @@ fn same_pair(p: Pair, q: Pair) -> bool
 // Has one of the `added` links the parts of the pair?
 pub fn added_link(text: &[u8], work: &[u32], a: Area, added: usize, p: Pair) -> bool
     requires { ⌜ Relinkable (now text) (now work) (a .b) (a .n) (a .g) (a .m) × AddedRows (now work) (a .n) (a .g) (a .m) added × PairThere (a .n) (a .m) p ⌝ }
-    ensures { λ r. ⌜ AddedIs (now (work .entry)) (a .n) (a .g) (a .m) added p r ⌝ }
+    ensures { λ r. ⌜ AddedMatch (now (work .entry)) (a .n) (a .g) (a .m) added p r ⌝ }
 {
     let mut i = 0;
     while i < added {

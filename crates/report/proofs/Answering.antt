@@ -35,7 +35,7 @@ use Rattle.tally.specs.Tabled.{Tabled}
 use Rattle.ranks.specs.declared.ranking.Order.the-variants.{Lengths, Ranks}
 use Rattle.ranks.specs.Ranking.{nodeKey, goesBy, upTo}
 use Rattle.node_lines.specs.NodeLines.{nodeIn, Printable, listed, Listed}
-use Rattle.node_lines.specs.Groups.{buckets, Numbered, Sized, BucketsIs}
+use Rattle.node_lines.specs.Groups.{buckets, RowNumbers, Sized, BucketsIs}
 use Rattle.report.specs.Totals.{lengthsOf, ranksOf, Ranked, TotalsIs, totalLines, reportFrom, Reportable}
 use Rattle.ranks.proofs.Sorting.{sort-each}
 use Rattle.nodes.proofs.Pairs.{bits-small}
@@ -54,7 +54,7 @@ word-small none n h = omega arith
 word-small (some k) n h = h k refl
 
 module _ {text w : List ℕ} {b : Bases} {n : Counts} {m : ℕ} (v : Reportable text w b n m) where
-  pub numbered : Numbered w (tablesEnd b n) (lengthsOf b n) m
+  pub numbered : RowNumbers w (tablesEnd b n) (lengthsOf b n) m
   numbered =
       record {
         room = omega (arith, v .tabled .readable .laid .steps, v .few);

@@ -6,7 +6,7 @@ use mathlib.Core.Logic.{_⊎_, inl}
 use mathlib.Core.Path.{_≡_, sym, ap, _∙_}
 use Rattle.gfa_spec.specs.Reading.{Segment, Link}
 use Rattle.work.specs.Rows.{Range, span, Outside}
-use Rattle.work.proofs.Rows.{Kept, only-then, only-wider, only-kept, kept-within, outside-less}
+use Rattle.work.proofs.Rows.{KeptWords, only-then, only-wider, only-kept, kept-within, outside-less}
 use Rattle.tables.specs.declared.tables.Bases.{Bases}
 use Rattle.tables.specs.declared.tables.Counts.{Counts}
 use Rattle.tables.specs.ByNumber.{tablesEnd}
@@ -51,13 +51,13 @@ module _ {text w w₁ : List ℕ} {b : Bases} {n : Counts} {m : ℕ} (l : Tabled
 
   module _ {w₂ w₃ w₄ : List ℕ} (c : PathsCounted text w₁ w₂ b n m) (d : OrderedIs Lengths w₂ w₃ (tablesEnd b n) m (lengthsOf b n) (areasOf b n .spare))
       (e : OrderedIs Ranks w₃ w₄ (tablesEnd b n) m (ranksOf b n) (areasOf b n .spare)) where
-    first-kept : Kept 0 (lengthsOf b n) w₂ w₃
+    first-kept : KeptWords 0 (lengthsOf b n) w₂ w₃
     first-kept = only-kept 0 (lengthsOf b n) (d .only) (inl (omega arith), (inl (omega arith), tt))
 
-    second-kept : Kept 0 (ranksOf b n) w₃ w₄
+    second-kept : KeptWords 0 (ranksOf b n) w₃ w₄
     second-kept = only-kept 0 (ranksOf b n) (e .only) (inl (omega arith), (inl (omega arith), tt))
 
-    rows-kept : Kept (tablesEnd b n) (nodesEnd (tablesEnd b n) m) w₂ w₄
+    rows-kept : KeptWords (tablesEnd b n) (nodesEnd (tablesEnd b n) m) w₂ w₄
     rows-kept = record { word = λ i p q. second-kept .word i (omega arith) (omega (arith, nodes-few)) ∙ first-kept .word i (omega arith) (omega (arith, nodes-few)) }
 
     pub ranked : Ranked text w w₄ b n m

@@ -11,13 +11,13 @@ use lib.ListN.{length, take, length-append, length-map}
 use lib.Seq.{take-at, take-all}
 use borrow.Author.Tests.{ltb-true, ltb-false, ne-eqb}
 use Rattle.gfa_spec.proofs.Answered.{path-some}
-use Rattle.gfa_spec.specs.Bytes.{bytes, same, any, keep, nth, join, Each}
+use Rattle.gfa_spec.specs.Bytes.{bytes, same, any, keep, join, Each}
 use Rattle.gfa_spec.specs.Decimal.{largest64}
-use Rattle.gfa_spec.specs.Reading.{Segment, Link, Path, Entry}
+use Rattle.gfa_spec.specs.Reading.{Segment, Link, Entry}
 use Rattle.gfa_spec.specs.Records.{segments, links, paths, segmentNumber, sequenceOf, sequenceOrEmpty, isSelfLink, selfLinks}
 use Rattle.gfa_spec.specs.Runs.{bit, overPaths, sameNodePairs, sameStepPairs}
 use Rattle.gfa_spec.specs.Sequences.{sequencePreview}
-use Rattle.gfa_spec.specs.Services.{pathAt as nthPath}
+use Rattle.gfa_spec.specs.Services.{nthPath}
 use Rattle.gfa_spec.proofs.Tests.{by-test, both}
 use Rattle.gfa_spec.proofs.Each.{each-implies}
 use Rattle.work.proofs.Rows.{only-kept, rows-length}

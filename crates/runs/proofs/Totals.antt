@@ -1,10 +1,9 @@
 -- Counts over the tables, row by row: a count so far, and what the rows that are left add to it. Assumes nothing.
-use Prim.Native.Nat.{ℕ, suc, _+_, _*_, _-_, _≤_, _<_}
+use Prim.Native.Nat.{ℕ, _+_, _-_, _≤_, _<_}
 use native.Mathlib.Omega.{arith}
-use mathlib.Core.Bool.{Bool, true, false}
-use mathlib.Core.List.{List, [], _∷_, map}
+use mathlib.Core.Bool.{Bool}
+use mathlib.Core.List.{List, _∷_, map}
 use mathlib.Core.Path.{_≡_, refl, sym, ap, _∙_}
-use lib.ListN.{length}
 use Rattle.tables.specs.declared.tables.Bases.{Bases}
 use Rattle.tables.specs.declared.tables.Counts.{Counts}
 use Rattle.tables.specs.declared.rows.LinkWords.{LinkWords}
@@ -16,6 +15,7 @@ use Rattle.gfa_spec.specs.Reading.{Step, Path}
 use Rattle.gfa_spec.specs.Records.{isSelfLink, selfLinks, links, paths}
 use Rattle.gfa_spec.specs.Runs.{bit, pairs, sameNode, sameStep, overPaths, sameNodePairs, sameStepPairs}
 use Rattle.gfa_spec.proofs.Counting.{count-one, count-append}
+use Rattle.gfa_spec.proofs.Runs.{pairs-none, pairs-cons}
 use Rattle.work.specs.Rows.{rowsAt}
 use Rattle.tables.specs.Links.{linksAt}
 use Rattle.tables.specs.Entries.{entriesAt}
@@ -25,18 +25,6 @@ use Rattle.tables.proofs.ByNumber.{links-more, paths-all, paths-next, paths-non
 use Rattle.runs.specs.Counts.{PairsIs, overRows, PairTotals}
 
 -- ---- the pairs of a step list
-
--- fewer than two steps have no pair
-pairs-none : (p : Step → Step → Bool) (xs : List Step) → length xs ≤ 1 → pairs p xs ≡ 0
-unfolding pairs
-pairs-none p [] h = refl
-pairs-none p (x ∷ []) h = refl
-pairs-none p (x ∷ (y ∷ xs)) h = absurd (omega arith)
-
--- a step before others
-pairs-cons : (p : Step → Step → Bool) (s t : Step) (ts : List Step) → pairs p (s ∷ (t ∷ ts)) ≡ bit (p s t) + pairs p (t ∷ ts)
-unfolding pairs
-pairs-cons p s t ts = refl
 
 -- The pairs of the steps from `first` on are x, and those of the steps from j - 1 on.
 pub record Paired (p : Step → Step → Bool) (text work : List ℕ) (b : Bases) (first end j x : ℕ) : Type 0 where

@@ -10,7 +10,7 @@ use lib.Seq.{slice, slice-empty, take-suc, drop-append-le, take-length, drop-len
 use borrow.Author.Tests.{ne-eqb}
 use Rattle.gfa_spec.specs.Bytes.{Part, part, split, isEmpty}
 use Rattle.gfa_spec.specs.Reading.{dropReturn, dropFinal, lineOf, lines}
-use Rattle.scan.specs.Places.{FirstIs, TrimmedIs, LineIs, linesAt, partAt}
+use Rattle.scan.specs.Places.{FirstIs, TrimmedIs, NextLineIs, linesAt, partAt}
 use Rattle.scan.proofs.Cutting.{part-slice, part-range, split-first, split-more, split-last}
 
 -- a range that ends one byte later
@@ -86,7 +86,7 @@ drop-slice text at = rw take-length
 
 module _ {text : List ℕ} {at end size : ℕ} (h : at < length text) (f : FirstIs text 10 at (length text) end) (t : TrimmedIs text at end size) where
   -- a line that ends in a line feed
-  pub line-more : end < length text → LineIs text at at size (end + 1)
+  pub line-more : end < length text → NextLineIs text at at size (end + 1)
   unfolding linesAt lineOf partAt
   line-more k =
       let rest = rw (part-range at end text (f .low)) at (t .rest) in
@@ -98,7 +98,7 @@ module _ {text : List ℕ} {at end size : ℕ} (h : at < length text) (f : First
       }
 
   -- a last line without
-  pub line-last : length text ≤ end → LineIs text at at size end
+  pub line-last : length text ≤ end → NextLineIs text at at size end
   unfolding linesAt lineOf partAt
   line-last k =
       let rest = rw (part-range at end text (f .low)) at (t .rest) in

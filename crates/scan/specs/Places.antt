@@ -35,7 +35,7 @@ unfoldable pub linesAt : List ℕ → ℕ → List Part
 linesAt text at = map lineOf (dropFinal (split 10 at (drop at text)))
 
 -- The line at `at`: the lines from there are this one, and those from `next`.
-pub record LineIs (text : List ℕ) (at start size next : ℕ) : Type 0 where
+pub record NextLineIs (text : List ℕ) (at start size next : ℕ) : Type 0 where
   pub first : linesAt text at ≡ partAt text start size ∷ linesAt text next
   pub within : start + size ≤ next
   pub on : at < next

@@ -1,7 +1,7 @@
 // Places in a text: bytes, lines and fields.
 ghost use Prim.Native.Nat.{_+_, _≤_, _<_};
 ghost use lib.ListN.{length};
-ghost use Rattle.scan.specs.Places.{FirstIs, TrimmedIs, LineIs, FieldIs};
+ghost use Rattle.scan.specs.Places.{FirstIs, TrimmedIs, NextLineIs, FieldIs};
 
 // A line: its first byte, its length without the line end, and where the next one starts.
 pub struct Line {
@@ -48,7 +48,7 @@ pub fn trimmed(text: &[u8], start: usize, end: usize) -> usize
 // The line that starts at `at`.
 pub fn next_line(text: &[u8], at: usize) -> Line
     requires { ⌜ at < length (now text) ⌝ }
-    ensures { λ r. ⌜ LineIs (now (text .entry)) at (r .start) (r .length) (r .next) ⌝ }
+    ensures { λ r. ⌜ NextLineIs (now (text .entry)) at (r .start) (r .length) (r .next) ⌝ }
 {
     let end = find(text, 10, at, text.len());
     let size = trimmed(text, at, end);

@@ -1,10 +1,10 @@
 -- A call that measures on an empty buffer, and then refuses or writes; and the service that spells a path. Assumes nothing.
-use Prim.Native.Nat.{ℕ, zero, suc, _+_, _*_, _≤_, _<_}
+use Prim.Native.Nat.{ℕ, _+_, _≤_, _<_}
 use native.Mathlib.Omega.{arith}
-use mathlib.Core.List.{List, [], _∷_}
-use mathlib.Core.Option.{none, some}
-use mathlib.Core.Path.{_≡_, refl, sym, ap, _∙_}
-use lib.ListN.{length, getD}
+use mathlib.Core.List.{List}
+use mathlib.Core.Option.{some}
+use mathlib.Core.Path.{_≡_, sym, ap, _∙_}
+use lib.ListN.{length}
 use Rattle.tables.specs.declared.tables.Bases.{Bases}
 use Rattle.tables.specs.declared.tables.Counts.{Counts}
 use Rattle.reader.specs.declared.answers.Answer.{Answer}
@@ -12,13 +12,11 @@ use Rattle.reader.specs.declared.input.Input.{Input}
 use Rattle.reader.specs.declared.input.Input.the-variants as input
 use Rattle.spelling.specs.declared.spelling.Spelt as code
 use Rattle.spelling.specs.declared.spelling.Spelt.the-variants.{Bytes, Bad}
-use Rattle.gfa_spec.specs.Bytes.{nth}
-use Rattle.gfa_spec.specs.Reading.{Path}
 use Rattle.gfa_spec.specs.Records.{paths}
 use Rattle.gfa_spec.specs.Sequences.{complement}
 use Rattle.gfa_spec.specs.Spelling.{Spelt, spell}
 use Rattle.gfa_spec.specs.Calls.{plainly, Outcome}
-use Rattle.gfa_spec.specs.Services.{pathAt as nthPath, ofSpelt, ofPath, spellEntries, spellPath}
+use Rattle.gfa_spec.specs.Services.{ofSpelt, ofPath, spellEntries, spellPath}
 use Rattle.gfa_spec.proofs.Answered.{answer-fitted, refused-fitted, path-some, path-none}
 use Rattle.writers.specs.Writers.{Wrote}
 use Rattle.writers.proofs.Writing.{measured, measured-long, written}
@@ -27,7 +25,7 @@ use Rattle.tables.specs.declared.rows.PathWords.{PathWords}
 use Rattle.tables.specs.ByNumber.{pathNo, segmentsOf, pathsTo, stepsFrom, PathIs}
 use Rattle.tables.proofs.ByNumber.{paths-length, paths-nth}
 use Rattle.reader.specs.Inputs.{stated, InputIs}
-use Rattle.spelling.specs.Spelled.{SpeltInto, BadAt, SpeltIs, badAnswer}
+use Rattle.spelling.specs.Spelled.{SpeltInto, BadStepAt, SpeltIs, badAnswer}
 use Rattle.reader.specs.Served.{Answered, refusedWith}
 use Rattle.spelling.proofs.Spelled.{bad-refusal, spelt-wrote}
 use Rattle.reader.proofs.Serving.{refuses, gives, was-read}
@@ -40,7 +38,7 @@ module _ {text : List ℕ} {limit : ℕ} {blank blank' out : List ℕ} {s : Spel
   unfolding ofSpelt
   answered-bad {out'} {k} {name} {r} e f u = go (rw e at (h .says))
     where
-      go : BadAt text s k name → Answered out out' r (ofSpelt (length out) s)
+      go : BadStepAt text s k name → Answered out out' r (ofSpelt (length out) s)
       go got =
           refuses (stated (badAnswer (Bad k name))) (ofSpelt (length out) s)
           (ap (ofSpelt (length out)) (got .spells) ∙ ap Outcome.refusal (sym (bad-refusal got)))

@@ -14,7 +14,7 @@ use reader::input::parse_gfa;
 use reader::input::refused_with;
 use spelling::spelling::Spelt;
 use spelling::spelling::put_spelling;
-use spelling::spelling::refusal_of;
+use spelling::spelling::refused_step;
 use tables::entry::PathNo;
 use tables::rows::path_at;
 use tables::tables::Bases;
@@ -39,7 +39,7 @@ fn spell_steps(
     let limit = room + 1;
     let measured = put_spelling(&mut out[..0], 0, limit, text, work, b, n, first, end);
     let Spelt::Bytes(need) = measured else {
-        return refusal_of(measured);
+        return refused_step(measured);
     };
     if room < need {
         return plain(22, 0);

@@ -34,7 +34,7 @@ use Rattle.tables.specs.ByNumber.{segmentNo, pathNo, stepNo, segmentsOf, pathsT
 use Rattle.tables.proofs.Numbers.{none-sequence, some-sequence, found-at, found-nothing, found-below}
 use Rattle.tables.proofs.ByNumber.{segments-nth, paths-all, paths-next, paths-none}
 use Rattle.reader.specs.Inputs.{stated}
-use Rattle.spelling.specs.Spelled.{SequenceIs, SpeltInto, BadAt, SpeltIs, badAnswer, BadStepIs}
+use Rattle.spelling.specs.Spelled.{SequenceIs, SpeltInto, BadStepAt, SpeltIs, badAnswer, BadStepIs}
 
 -- ---- the sequence of a name
 
@@ -178,7 +178,7 @@ spelt-wrote (Bad k name) bs h e = let z : _≡_ {A = ℕ} 0 1 = cc (h .says .spe
 -- ---- the first bad step of all paths
 
 -- the refusal of a bad step is that of its name
-pub bad-refusal : {text : List ℕ} {s : Spelt} {k : ℕ} {name : Place} → BadAt text s k name → stated (badAnswer (Bad k name)) ≡ onName k (partAt text (name .start) (name .size))
+pub bad-refusal : {text : List ℕ} {s : Spelt} {k : ℕ} {name : Place} → BadStepAt text s k name → stated (badAnswer (Bad k name)) ≡ onName k (partAt text (name .start) (name .size))
 unfolding onName partAt
 bad-refusal {text} {name = name} h = rw (length-part (name .start) (name .size) text (h .inside))
 

@@ -53,14 +53,14 @@ pub record SpeltInto (limit : ℕ) (before : List ℕ) (at : ℕ) (after : List 
 
 -- A step is bad, and its name is this part of the text. What was written before it is not told: the service measures on an empty part of the output first, and
 -- writes only where no step is bad; the work area is only read.
-pub record BadAt (text : List ℕ) (s : spelling.Spelt) (k : ℕ) (name : Place) : Type 0 where
+pub record BadStepAt (text : List ℕ) (s : spelling.Spelt) (k : ℕ) (name : Place) : Type 0 where
   pub spells : s ≡ spelling.bad k (partAt text (name .start) (name .size))
   pub inside : Inside text name
 
 -- by the cases of the answer
 abbrev pub SpeltSays : List ℕ → ℕ → List ℕ → ℕ → List ℕ → spelling.Spelt → Spelt → Type 0
 SpeltSays text limit before at after s (Bytes next) = SpeltInto limit before at after s next
-SpeltSays text limit before at after s (Bad k name) = BadAt text s k name
+SpeltSays text limit before at after s (Bad k name) = BadStepAt text s k name
 
 -- What the answer of the speller says of s, which the definitions spell.
 pub record SpeltIs (text : List ℕ) (limit : ℕ) (before : List ℕ) (at : ℕ) (after : List ℕ) (s : spelling.Spelt) (r : Spelt) : Type 0 where

@@ -109,7 +109,7 @@ pub fn put_spelling(
 }
 
 // The refusal of a bad step.
-pub fn refusal_of(s: Spelt) -> Answer
+pub fn refused_step(s: Spelt) -> Answer
     ensures { λ r. ⌜ r ≡ badAnswer s ⌝ }
 {
     match s {
@@ -139,7 +139,7 @@ pub fn bad_step(text: &[u8], work: &[u32], b: Bases, n: Counts) -> Steps
         let mut none = [0u8; 1];
         let spelt = put_spelling(&mut none, 0, 0, text, work, b, n, path.first, path.end);
         let Spelt::Bytes(_) = spelt else {
-            return Steps::Bad(refusal_of(spelt));
+            return Steps::Bad(refused_step(spelt));
         };
         i += 1;
     }

@@ -48,11 +48,11 @@ unfolding walk
 walk-none text to = rw slice-empty
 
 -- What a search for a mark finds, by ranges of the text.
-record Marked (text : List ℕ) (from to r : ℕ) : Type 0 where
+record MarkFound (text : List ℕ) (from to r : ℕ) : Type 0 where
   pub before : walk from (slice from to text) .before ≡ slice from r text
   pub steps : walk from (slice from to text) .steps ≡ walk r (slice r to text) .steps
 
-mark-is : {text : List ℕ} {from to r : ℕ} → Marked text from to r → (r < to → isMark (getD text r 0) ≡ true) → from ≤ r → r ≤ to → MarkIs text from to r
+mark-is : {text : List ℕ} {from to r : ℕ} → MarkFound text from to r → (r < to → isMark (getD text r 0) ≡ true) → from ≤ r → r ≤ to → MarkIs text from to r
 mark-is {text} {from} {to} {r} m k l h =
     record {
       before = rw (part-range from to text (omega arith), part-range from r text l) (m .before);
@@ -62,7 +62,7 @@ mark-is {text} {from} {to} {r} m k l h =
       high = h;
     }
 
-mark-at : {text : List ℕ} {from to r : ℕ} → MarkIs text from to r → Marked text from to r
+mark-at : {text : List ℕ} {from to r : ℕ} → MarkIs text from to r → MarkFound text from to r
 mark-at {text} {from} {to} {r} m =
     let l = m .low in
     let h = m .high in

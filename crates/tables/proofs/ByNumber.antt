@@ -19,7 +19,7 @@ use Rattle.tables.specs.Paths.{kindOf, kindIn, pathAt, pathsAt}
 use Rattle.tables.specs.Steps.{stepAt, stepsAt}
 use Rattle.tables.specs.Entries.{recordAt, entryAt, entriesAt}
 use Rattle.tables.specs.Tables.{Readable}
-use Rattle.work.proofs.Rows.{Kept, kept-within, rows-snoc, rows-length, rows-nth}
+use Rattle.work.proofs.Rows.{KeptWords, kept-within, rows-snoc, rows-length, rows-nth}
 use Rattle.work.proofs.RowCuts.{rows-all, rows-cons, rows-none, rows-split}
 use Rattle.tables.proofs.TableRows.{segment-kept, segments-kept, link-kept, links-kept, path-kept, paths-kept, step-kept, steps-kept}
 use Rattle.tables.proofs.Standing.{tables-stand}
@@ -211,7 +211,7 @@ module _ (text work : List ℕ) (b : Bases) where
 
 -- the words of the tables are as they were
 abbrev pub TablesKept : Bases → Counts → List ℕ → List ℕ → Type 0
-TablesKept b n w w' = Kept (b .lines) (tablesEnd b n) w w'
+TablesKept b n w w' = KeptWords (b .lines) (tablesEnd b n) w w'
 
 module _ {text w w' : List ℕ} {b : Bases} {n : Counts} (t : Readable text w b n) (k : TablesKept b n w w') where
   pub readable-stands : length w' ≡ length w → Readable text w' b n

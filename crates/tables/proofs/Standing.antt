@@ -15,16 +15,16 @@ use Rattle.tables.specs.Links.{linksAt}
 use Rattle.tables.specs.Paths.{pathsAt}
 use Rattle.tables.specs.Entries.{recordAt, entryOf, entryAt, entriesAt, Fits}
 use Rattle.tables.specs.Tables.{rowsOf, Laid, Sound}
-use Rattle.work.proofs.Rows.{Kept, only-kept, kept-within, rows-kept}
+use Rattle.work.proofs.Rows.{KeptWords, only-kept, kept-within, rows-kept}
 use Rattle.tables.proofs.TableRows.{segment-kept, segments-kept, segment-rows-kept, link-kept, links-kept, link-rows-kept, step-rows-kept, path-kept, paths-kept, path-row-kept, record-kept}
 
 -- The rows that the counts say are kept.
 pub record RowsKept (b : Bases) (n : Counts) (w w' : List ℕ) : Type 0 where
-  pub lines : Kept (b .lines) (b .lines + 3 * n .lines) w w'
-  pub segs : Kept (b .segs) (b .segs + 6 * n .segs) w w'
-  pub links : Kept (b .links) (b .links + 8 * n .links) w w'
-  pub paths : Kept (b .paths) (b .paths + 5 * n .paths) w w'
-  pub steps : Kept (b .steps) (b .steps + 3 * n .steps) w w'
+  pub lines : KeptWords (b .lines) (b .lines + 3 * n .lines) w w'
+  pub segs : KeptWords (b .segs) (b .segs + 6 * n .segs) w w'
+  pub links : KeptWords (b .links) (b .links + 8 * n .links) w w'
+  pub paths : KeptWords (b .paths) (b .paths + 5 * n .paths) w w'
+  pub steps : KeptWords (b .steps) (b .steps + 3 * n .steps) w w'
 
 -- where only rows behind them changed
 pub rows-behind : {w w' : List ℕ} (b : Bases) (n m : Counts) →
@@ -80,7 +80,7 @@ pub record Standing (text w w' : List ℕ) (b : Bases) (n : Counts) : Type 0 whe
   pub sound : Sound text w' b n
 
 -- where the words up to the end of the step table's rows are kept
-pub tables-stand : {text w w' : List ℕ} {b : Bases} {n : Counts} {room : ℕ} → Laid b n room → Sound text w b n → Kept (b .lines) (b .steps + 3 * n .steps) w w' →
+pub tables-stand : {text w w' : List ℕ} {b : Bases} {n : Counts} {room : ℕ} → Laid b n room → Sound text w b n → KeptWords (b .lines) (b .steps + 3 * n .steps) w w' →
     Standing text w w' b n
 tables-stand {text} {b = b} {n = n} l s k =
     let t : RowsKept b n _ _ =

@@ -18,11 +18,11 @@ use Rattle.tables.specs.Steps.{stepAt, stepsAt, StepRow}
 use Rattle.tables.specs.Paths.{kindOf, pathFields, pathAt, pathsAt, PathRow}
 use Rattle.tables.specs.Entries.{wordsOf, recordOf, recordAt}
 use Rattle.work.proofs.Stores.{sets-here, sets-first}
-use Rattle.work.proofs.Rows.{Kept, rows-kept, each-kept}
+use Rattle.work.proofs.Rows.{KeptWords, rows-kept, each-kept}
 
 -- ---- rows that are kept
 
-module _ {lo hi : ℕ} {w w' : List ℕ} (k : Kept lo hi w w') (text : List ℕ) where
+module _ {lo hi : ℕ} {w w' : List ℕ} (k : KeptWords lo hi w w') (text : List ℕ) where
   module _ (at : ℕ) (l : lo ≤ at) where
     pub segment-kept : at + 6 ≤ hi → segmentAt text w' at ≡ segmentAt text w at
     unfolding segmentAt
@@ -121,7 +121,7 @@ module _ {lo hi : ℕ} {w w' : List ℕ} (k : Kept lo hi w w') (text : List ℕ)
     step-rows-kept h e = each-kept e (λ i a. step-row-kept (base + 3 * i) (omega arith) (omega arith))
 
 -- a path is kept where its row and its steps are
-pub path-kept : {lo hi : ℕ} {w w' : List ℕ} (text : List ℕ) (steps at c : ℕ) → Kept lo hi w w' → lo ≤ at → at + 5 ≤ hi → Kept steps (steps + 3 * c) w w' →
+pub path-kept : {lo hi : ℕ} {w w' : List ℕ} (text : List ℕ) (steps at c : ℕ) → KeptWords lo hi w w' → lo ≤ at → at + 5 ≤ hi → KeptWords steps (steps + 3 * c) w w' →
     PathRow text c w at → pathAt text steps w' at ≡ pathAt text steps w at
 unfolding pathAt
 path-kept {w = w} text steps at c r l h s b =
@@ -135,7 +135,7 @@ path-kept {w = w} text steps at c r l h s b =
       e,
     )
 
-pub paths-kept : {w w' : List ℕ} (text : List ℕ) (steps base n c : ℕ) → Kept base (base + 5 * n) w w' → Kept steps (steps + 3 * c) w w' →
+pub paths-kept : {w w' : List ℕ} (text : List ℕ) (steps base n c : ℕ) → KeptWords base (base + 5 * n) w w' → KeptWords steps (steps + 3 * c) w w' →
     EachRow (PathRow text c) 5 w base n → pathsAt text steps w' base n ≡ pathsAt text steps w base n
 unfolding pathsAt
 paths-kept text steps base n c r s e = rows-kept (pathAt text steps) 5 base n (λ i a. path-kept text steps (base + 5 * i) c r (omega arith) (omega arith) s (e .row i a))

@@ -16,7 +16,7 @@ use Rattle.tables.specs.declared.rows.LinkWords.{LinkWords}
 use Rattle.tables.specs.ByNumber.{bytesIn, Inside}
 use Rattle.report_spec.specs.Nodes.{eachOnce}
 use Rattle.nodes.specs.declared.nodes.NodeWords.{NodeWords}
-use Rattle.nodes.specs.Counters.{noCounter, Counted}
+use Rattle.nodes.specs.Counters.{noCounter, CounterOf}
 use Rattle.nodes.specs.Table.{nodeNo, counterNo, nameNo, namesTo, RowPut, Elsewhere, NodeHas, markedOf, rowWithLink, code, bitsOf, linksAmong, LinkCounts, CountRows, NodeTable}
 use Rattle.nodes.proofs.Pairs.{bits-more}
 use Rattle.nodes.proofs.Stored.{names-same, node-other, counter-other}
@@ -176,13 +176,13 @@ module _ {text w w' : List ℕ} {table n : ℕ} where
   pub fresh-new : {a : NodeWords} → RowPut w w' table n a noCounter → CountRows text [] w table n → CountRows text [] w' table (n + 1)
   fresh-new p e = record { row = λ k h. go k h (ℕ-discrete k n) }
     where
-      go : (k : ℕ) → k < n + 1 → Dec (k ≡ n) → Counted (nameNo text w' table k) [] (counterNo w' table k)
+      go : (k : ℕ) → k < n + 1 → Dec (k ≡ n) → CounterOf (nameNo text w' table k) [] (counterNo w' table k)
       go k h (yes z) = rw (z, p .counts) (counted-none (nameNo text w' table n))
       go k h (no d) = rw (node-other p k d, counter-other p k d) (e .row k (omega arith))
 
   pub fresh-more : {ps : List Path} {k : ℕ} {a : NodeWords} → RowPut w w' table k a (counterNo w table k) → a .name ≡ nodeNo w table k .name → CountRows text ps w table n → CountRows text ps w' table n
   fresh-more {ps} {k} p s e = record { row = λ i h. go i h (ℕ-discrete i k) }
     where
-      go : (i : ℕ) → i < n → Dec (i ≡ k) → Counted (nameNo text w' table i) ps (counterNo w' table i)
+      go : (i : ℕ) → i < n → Dec (i ≡ k) → CounterOf (nameNo text w' table i) ps (counterNo w' table i)
       go i h (yes z) = rw (z, p .words, s, p .counts) (rw z at (e .row i h))
       go i h (no d) = rw (node-other p i d, counter-other p i d) (e .row i h)

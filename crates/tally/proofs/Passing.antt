@@ -16,7 +16,7 @@ use Rattle.runs.specs.Counts.{overRows}
 use Rattle.tables.proofs.ByNumber.{TablesKept, paths-more, steps-none, path-stands, steps-stand, paths-zero, paths-length, steps-length, paths-cut}
 use Rattle.report_spec.specs.Nodes.{total, longest}
 use Rattle.nodes.specs.declared.counters.Counter.{Counter}
-use Rattle.nodes.specs.Counters.{CounterFits, finish, Counted}
+use Rattle.nodes.specs.Counters.{CounterFits, finish, CounterOf}
 use Rattle.nodes.specs.Table.{counterNo, nameNo, CountRows}
 use Rattle.tally.specs.Tabled.{Tabled}
 use Rattle.tally.specs.Visits.{FitRows, Countable, Passable, Recounted, NextCounted, PathCounted, PathsCounted}
@@ -99,7 +99,7 @@ pub record Passing (text before work : List ℕ) (b : Bases) (n : Counts) (m p :
   pub frame : Recounted before work (tablesEnd b n) m
 
 -- counters of no path fit
-none-fits : {node : List ℕ} {c : Counter} {left : ℕ} → left ≤ 2097152 → Counted node [] c → CounterFits left 0 c
+none-fits : {node : List ℕ} {c : Counter} {left : ℕ} → left ≤ 2097152 → CounterOf node [] c → CounterFits left 0 c
 unfolding total sum count join longest
 none-fits h r =
     record {
@@ -162,7 +162,7 @@ module _ {text before : List ℕ} {b : Bases} {n : Counts} {m : ℕ} where
           frame = recounted-then (s .frame) (q .frame);
         }
       where
-        row : (k : ℕ) → k < m → Counted (nameNo text work' (tablesEnd b n) k) (pathsTo text before b (p + 1)) (counterNo work' (tablesEnd b n) k)
+        row : (k : ℕ) → k < m → CounterOf (nameNo text work' (tablesEnd b n) k) (pathsTo text before b (p + 1)) (counterNo work' (tablesEnd b n) k)
         row k l =
             let ps = pathsTo text before b p in
             let pa = pathNo text before b p in

@@ -12,14 +12,14 @@ use borrow.Author.Tests.{ltb-true, ltb-false, leb-true, eq-eqb, ne-eqb}
 use Rattle.gfa_spec.specs.Bytes.{any, count, sum, join, isEmpty, Each}
 use Rattle.gfa_spec.specs.Reading.{Path}
 use Rattle.gfa_spec.specs.Runs.{Run, runs, isRepeat, pairs, bit, sameStep}
-use Rattle.gfa_spec.specs.Services.{pathAt}
+use Rattle.gfa_spec.specs.Services.{nthPath}
 use Rattle.gfa_spec.proofs.Tests.{by-test, any-append}
 use Rattle.gfa_spec.proofs.Each.{each-always, each-implies, each-append, each-keep, each-join, each-map}
 use Rattle.writers.proofs.Joining.{join-last}
 use Rattle.report_spec.specs.Nodes.{on, visits, repeats, repeatsAt, longest, pathName, firstWith, total}
 use Rattle.gfa_spec.proofs.Runs.{sum-append}
 use Rattle.nodes.specs.declared.counters.Counter.{Counter}
-use Rattle.nodes.specs.Counters.{noCounter, finish, named, Counted}
+use Rattle.nodes.specs.Counters.{noCounter, finish, named, CounterOf}
 use Rattle.nodes.proofs.Counting.{repeatsOn, finished, summed}
 
 -- ---- one more behind the others
@@ -82,17 +82,17 @@ longest-some (x ∷ xs) h = refl
 -- ---- the name of a path
 
 named-less : (k : ℕ) (ps : List Path) (p : Path) → k ≤ length ps → named k (ps ++ (p ∷ [])) ≡ named k ps
-unfolding named pathAt
+unfolding named nthPath
 named-less zero ps p h = refl
 named-less (suc k) ps p h = rw (less k ps h)
   where
-    less : (k : ℕ) (ps : List Path) → suc k ≤ length ps → pathAt k (ps ++ (p ∷ [])) ≡ pathAt k ps
+    less : (k : ℕ) (ps : List Path) → suc k ≤ length ps → nthPath k (ps ++ (p ∷ [])) ≡ nthPath k ps
     less k [] h = absurd (omega arith)
     less zero (q ∷ ps) h = refl
     less (suc k) (q ∷ ps) h = less k ps (omega arith)
 
 named-last : (ps : List Path) (p : Path) → named (length ps + 1) (ps ++ (p ∷ [])) ≡ pathName p
-unfolding named pathAt Option·elim
+unfolding named nthPath Option·elim
 named-last [] p = refl
 named-last (q ∷ ps) p = rw add-one (rw add-one at (named-last ps p))
 
@@ -160,7 +160,7 @@ module _ (node : List ℕ) where
             let each = each-append (λ r. isRepeat r ≡ true) old new (rw eo at (all-repeats ps)) (rw en at (each-repeats p)) in
             rw (some-longest old (rw eo at (all-repeats ps)) (omega arith), some-longest (old ++ new) each (omega arith)))
 
-  pub counted-path : (ps : List Path) (p : Path) (c : Counter) → Counted node ps c → Counted node (ps ++ (p ∷ [])) (finish node (length ps) c (runs (p .steps)))
+  pub counted-path : (ps : List Path) (p : Path) (c : Counter) → CounterOf node ps c → CounterOf node (ps ++ (p ∷ [])) (finish node (length ps) c (runs (p .steps)))
   unfolding visits repeatsAt repeats repeatsOn bit
   counted-path ps p c h =
       let f = finished node (length ps) c (runs (p .steps)) in
@@ -179,6 +179,6 @@ module _ (node : List ℕ) where
       }
 
   -- no path
-  pub counted-none : Counted node [] noCounter
+  pub counted-none : CounterOf node [] noCounter
   unfolding total sum count join longest isEmpty named
   counted-none = record { visits = refl; paths = refl; last = omega arith; adjacent = refl; equal = refl; runs = refl; longest = refl; first = refl; known = omega arith }

@@ -13,9 +13,10 @@ use Rattle.gfa_spec.specs.Reading.{Step}
 use Rattle.gfa_spec.specs.Runs.{Run, runs, bit}
 use Rattle.gfa_spec.proofs.Tests.{by-test, same-equal, same-sym}
 use Rattle.gfa_spec.proofs.Counting.{bit-small}
+use Rattle.gfa_spec.proofs.Runs.{extend-first}
 use Rattle.scan.specs.Places.{partAt, SameIs}
 use Rattle.work.specs.Rows.{span, Small}
-use Rattle.work.proofs.Rows.{Kept, only-none, only-then, only-kept}
+use Rattle.work.proofs.Rows.{KeptWords, only-none, only-then, only-kept}
 use Rattle.tables.specs.declared.tables.Bases.{Bases}
 use Rattle.tables.specs.declared.tables.Counts.{Counts}
 use Rattle.tables.specs.declared.rows.Place.{Place}
@@ -29,7 +30,7 @@ use Rattle.nodes.specs.declared.nodes.TableRow.{TableRow}
 use Rattle.nodes.specs.declared.nodes.TableRow.the-variants.{At, Nowhere}
 use Rattle.nodes.specs.Counters.{isLonger, countedOf, counterWords, CounterFits, goesOn, finish}
 use Rattle.nodes.specs.Table.{nodesEnd, nodeNo, counterNo, nameNo, RowPut, SearchIs}
-use Rattle.nodes.proofs.Counting.{first-run, finish-here, finish-elsewhere}
+use Rattle.nodes.proofs.Counting.{finish-here, finish-elsewhere}
 use Rattle.nodes.proofs.Stored.{node-other, counter-other, put-within}
 use Rattle.nodes.proofs.Finding.{found, nowhere}
 use Rattle.tally.specs.Visits.{FitRows, Countable, Passable, Recounted, RunCounted, GoesOn, NextCounted}
@@ -48,7 +49,7 @@ module _ {w w' : List ℕ} {table m : ℕ} (r : Recounted w w' table m) where
         only = only-then (span table (nodesEnd table m) ∷ []) (r .only) (c .only) (λ i o. (o, o));
       }
 
-  pub recounted-below : (lo : ℕ) → Kept lo table w w'
+  pub recounted-below : (lo : ℕ) → KeptWords lo table w w'
   recounted-below lo = only-kept lo table (r .only) (inl (omega arith), tt)
 
   pub countable-stands : {text : List ℕ} → Countable text w table m → Countable text w' table m
@@ -151,7 +152,7 @@ module _ {text w : List ℕ} {b : Bases} {name : Place} {r end : ℕ} where
 
       go : (ss : List Step) → t ≡ goesOn (bytesIn text name) (runs (here ∷ ss))
       go ss =
-          let (k, more, f) = first-run here (runs ss) in
+          let (k, more, f) = extend-first here (runs ss) in
           unfold runs in rw f (unfold goesOn on partAt in (e .answer ∙ same-sym (bytesIn text name) (bytesIn text (s .name))))
 
 -- ---- the next run

@@ -1,5 +1,5 @@
 -- Marks that are added: by a name, and one behind the other. Assumes nothing.
-use Prim.Native.Nat.{ℕ, _+_, _*_, _<_}
+use Prim.Native.Nat.{ℕ, _+_, _<_}
 use native.Mathlib.Omega.{arith}
 use mathlib.Core.Bool.{Bool, false, _||_, or-true, or-false, or-assoc}
 use mathlib.Core.List.{List, [], _∷_}

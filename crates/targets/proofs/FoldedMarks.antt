@@ -1,5 +1,5 @@
 -- The passes that mark the folded segments. Assumes nothing.
-use Prim.Native.Nat.{ℕ, zero, suc, _+_, _*_, _-_, _≤_, _<_}
+use Prim.Native.Nat.{ℕ, zero, suc, _+_, _-_, _≤_, _<_}
 use native.Mathlib.Numerals.{add-one}
 use native.Mathlib.Omega.{arith}
 use mathlib.Core.Bool.{Bool, false, _&&_, or-false}
@@ -9,7 +9,7 @@ use mathlib.Core.Path.{_≡_, refl, sym, _∙_}
 use lib.Dec.{eqb}
 use lib.ListN.{length, getD, set}
 use borrow.Author.Tests.{le-leb, lt-leb}
-use Rattle.gfa_spec.specs.Bytes.{same, any, count as countOf}
+use Rattle.gfa_spec.specs.Bytes.{any, count as countOf}
 use Rattle.gfa_spec.specs.Reading.{Segment}
 use Rattle.gfa_spec.specs.Runs.{Run, runs, isRepeat, bit}
 use Rattle.gfa_spec.proofs.Tests.{same-sym, any-append}
@@ -30,7 +30,7 @@ use Rattle.tables.proofs.ByNumber.{paths-more, steps-none, segment-stands, path
 use Rattle.normalize_tables.specs.declared.layout.Layout.{Layout}
 use Rattle.normalize_tables.specs.Layout.{Source}
 use Rattle.normalize_tables.specs.Marks.{Marked}
-use Rattle.targets.specs.Marking.{Markable, Adds, NameMarked, isRunOn, NextMarked, PathMarked, bothAt, sumTo, BothKept, FoldedIs}
+use Rattle.targets.specs.Marking.{Markable, Adds, NameMarked, isRunOn, NextMarked, PathMarked, bothAt, sumTo, BothKept, MarkFoldedIs}
 use Rattle.work.proofs.Filling.{Filling, filling-start, filling-ahead, filling-behind, filling-more, filling-end}
 use Rattle.targets.proofs.Adding.{folded-marks, tables-kept, tables-same, marked-by, cleared-marks, adds-none, adds-alike, adds-then}
 
@@ -173,7 +173,7 @@ module _ {text w v u w' : List ℕ} {b : Bases} {n : Counts} {g : Layout} {r : �
       let folded = a .marked (λ t. false) (cleared-marks f c) .mark i h in
       rw (eligible, m .mark i h, bit-set, folded, bit-set, segment-stands (f .readable) (tables-kept f changed) i h, tables-same f (c .only) .of-paths)
 
-  pub folded-marked : FoldedIs text w w' b n g r
+  pub folded-marked : MarkFoldedIs text w w' b n g r
   folded-marked =
       record {
         marked = λ p m. marked-by (folded-marks s) changed-all (λ t. p t && any (repeatsOn (t .id)) (pathsTo text w b (n .paths))) (λ i h. k .marks i h ∙ both-say p m i h);

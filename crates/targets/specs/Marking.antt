@@ -1,5 +1,5 @@
 -- Marks of segments: set by names, kept by tests. Document 01, "Folding", rules 1 and 2.
-use Prim.Native.Nat.{ℕ, zero, suc, _+_, _*_, _-_, _≤_, _<_}
+use Prim.Native.Nat.{ℕ, zero, suc, _+_, _-_, _≤_, _<_}
 use mathlib.Core.Bool.{Bool, true, _&&_, _||_}
 use mathlib.Core.List.{List, [], _∷_}
 use mathlib.Core.Path.{_≡_}
@@ -104,7 +104,7 @@ pub record BothKept (before work : List ℕ) (g : Layout) (count r : ℕ) : Type
   pub only : Only (span (g .folded) (g .folded + count) ∷ []) before work
 
 -- The folded segments are marked and counted.
-pub record FoldedIs (text before work : List ℕ) (b : Bases) (n : Counts) (g : Layout) (r : ℕ) : Type 0 where
+pub record MarkFoldedIs (text before work : List ℕ) (b : Bases) (n : Counts) (g : Layout) (r : ℕ) : Type 0 where
   pub marked : (p : Segment → Bool) → Marked p text before b n (g .eligible)
       → Marked (λ s. p s && any (repeatsOn (s .id)) (pathsTo text before b (n .paths))) text work b n (g .folded)
   pub counted : (p : Segment → Bool) → Marked p text before b n (g .eligible)

@@ -5,7 +5,7 @@ ghost use Rattle.gfa_spec.specs.Bytes.{any};
 ghost use Rattle.normalize_spec.specs.Folding.{repeatsOn};
 ghost use Rattle.tables.specs.ByNumber.{pathsTo};
 ghost use Rattle.normalize_tables.specs.Layout.{Source};
-ghost use Rattle.targets.specs.Marking.{Markable, Adds, OnMarked, AnyIs, NextMarked, PathMarked, BothKept, FoldedIs};
+ghost use Rattle.targets.specs.Marking.{Markable, Adds, OnMarked, AnyIs, NextMarked, PathMarked, BothKept, MarkFoldedIs};
 use crate::marks::mark_name;
 use crate::marks::still_marked;
 use normalize_tables::layout::Layout;
@@ -143,7 +143,7 @@ pub fn keep_eligible(work: &mut [u32], g: Layout, count: usize) -> usize
 // Marks the folded segments; answers how many there are.
 pub fn mark_folded(text: &[u8], work: &mut [u32], b: Bases, n: Counts, g: Layout) -> usize
     requires { ⌜ Source (now text) (now work) b n g ⌝ }
-    ensures { λ r. ⌜ FoldedIs (now (text .entry)) (now (work .entry)) (now (work .exit)) b n g r ⌝ }
+    ensures { λ r. ⌜ MarkFoldedIs (now (text .entry)) (now (work .entry)) (now (work .exit)) b n g r ⌝ }
 {
     clear_words(work, g.folded, n.segs);
     mark_paths(text, work, b, n, g.folded);

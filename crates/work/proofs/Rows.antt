@@ -39,7 +39,7 @@ outside-less a' b' (inr h) p q = inr (omega arith)
 -- ---- what is kept
 
 -- The words from lo up to hi are those of before.
-pub record Kept (lo hi : ℕ) (before after : List ℕ) : Type 0 where
+pub record KeptWords (lo hi : ℕ) (before after : List ℕ) : Type 0 where
   pub word : (i : ℕ) → lo ≤ i → i < hi → getD after i 0 ≡ getD before i 0
 
 -- the words from lo to hi are apart from each of the ranges
@@ -52,11 +52,11 @@ apart-outside lo hi i [] a l h = tt
 apart-outside lo hi i (r ∷ rs) a l h = (⊎-elim (λ p. inl (omega arith)) (λ p. inr (omega arith)) (a .0), apart-outside lo hi i rs (a .1) l h)
 
 -- words apart from what changed are kept
-pub only-kept : {rs : List Range} {w w' : List ℕ} (lo hi : ℕ) → Only rs w w' → Apart lo hi rs → Kept lo hi w w'
+pub only-kept : {rs : List Range} {w w' : List ℕ} (lo hi : ℕ) → Only rs w w' → Apart lo hi rs → KeptWords lo hi w w'
 only-kept {rs} lo hi k a = record { word = λ i l h. k .word i (apart-outside lo hi i rs a l h) }
 
 -- fewer words are kept too
-pub kept-within : {lo hi : ℕ} {w w' : List ℕ} (lo' hi' : ℕ) → Kept lo hi w w' → lo ≤ lo' → hi' ≤ hi → Kept lo' hi' w w'
+pub kept-within : {lo hi : ℕ} {w w' : List ℕ} (lo' hi' : ℕ) → KeptWords lo hi w w' → lo ≤ lo' → hi' ≤ hi → KeptWords lo' hi' w w'
 kept-within lo' hi' k l h = record { word = λ i a b. k .word i (omega arith) (omega arith) }
 
 -- ---- rows

@@ -24,14 +24,14 @@ enum-known-measured c = search needs
 enum-told : tie.Need-enum-told
 enum-told c = search needs
 
-refusal-of-requires : tie.Need-refusal-of-requires
-refusal-of-requires c κs = search needs
+refused-step-requires : tie.Need-refused-step-requires
+refused-step-requires c κs = search needs
 
 same-length : tie.Need-same-length
 same-length c = search needs
 
 returns : tie.Need-returns
-returns c = answered-bad (c .before .before .before .before .before .put-spelling .ensures) (c .before .enum-told .given .1) (c .refusal-of .ensures) (untouched (c .before .before .before .before .before .put-spelling .last .0) _ (c .before .before .before .before .before .put-spelling .kept .0))
+returns c = answered-bad (c .before .before .before .before .before .put-spelling .ensures) (c .before .enum-told .given .1) (c .refused-step .ensures) (untouched (c .before .before .before .before .before .put-spelling .last .0) _ (c .before .before .before .before .before .put-spelling .kept .0))
 
 plain-requires : tie.Need-plain-requires
 plain-requires c κs = search needs
@@ -64,7 +64,7 @@ spell-steps-spec =
     put-spelling-requires
     enum-known-measured
     enum-told
-    refusal-of-requires
+    refused-step-requires
     same-length
     returns
     plain-requires

@@ -33,11 +33,11 @@ enum-told c = search needs
 enum-told-2 : tie.Need-enum-told-2 Inv-loop μ-loop
 enum-told-2 c = search needs
 
-refusal-of-requires : tie.Need-refusal-of-requires Inv-loop μ-loop
-refusal-of-requires c κs = search needs
+refused-step-requires : tie.Need-refused-step-requires Inv-loop μ-loop
+refused-step-requires c κs = search needs
 
 returns : tie.Need-returns Inv-loop μ-loop
-returns c = seeking-bad (c .before .before .before .before .before .before .before .before .before .loop .inv .1) (c .before .before .before .before .before .before .before .if1 .taken) (c .before .before .before .before .before .before .path-at .ensures) (c .before .before .before .before .put-spelling .ensures) (c .before .enum-told2 .given .1) (c .refusal-of .ensures)
+returns c = seeking-bad (c .before .before .before .before .before .before .before .before .before .loop .inv .1) (c .before .before .before .before .before .before .before .if1 .taken) (c .before .before .before .before .before .before .path-at .ensures) (c .before .before .before .before .put-spelling .ensures) (c .before .enum-told2 .given .1) (c .refused-step .ensures)
 
 add-i : tie.Need-add-i Inv-loop μ-loop
 add-i c = search needs
@@ -64,7 +64,7 @@ bad-step-spec =
     put-spelling-requires
     enum-told
     enum-told-2
-    refusal-of-requires
+    refused-step-requires
     returns
     add-i
     loop-less
