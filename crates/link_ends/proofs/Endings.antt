@@ -1,14 +1,13 @@
 -- The words of the links' ends. Assumes nothing.
-use Prim.Native.Nat.{ℕ, _+_, _*_, _-_, _≤_, _<_}
+use Prim.Native.Nat.{ℕ, _+_, _-_, _≤_, _<_}
 use native.Mathlib.Omega.{arith}
 use mathlib.Core.Bool.{Bool, true, false, not, _&&_}
 use mathlib.Core.List.{List, [], _∷_, _++_, map}
 use mathlib.Core.Logic.{_⊎_, inl, inr}
 use mathlib.Core.Option.{Option, none, some}
-use mathlib.Core.Path.{_≡_, refl, sym, _∙_}
+use mathlib.Core.Path.{_≡_, refl, sym, ap, _∙_}
 use lib.Dec.{eqb}
 use lib.ListN.{length, getD}
-use lib.Seq.{sets, length-sets}
 use borrow.Author.Tests.{eq-eqb, ne-eqb, not-true, not-false}
 use borrow.Author.Count.{below-more}
 use Rattle.gfa_spec.specs.Bytes.{same, any, count, keep}
@@ -20,15 +19,14 @@ use Rattle.gfa_spec.proofs.Counting.{bit-set, count-one, count-append}
 use Rattle.normalize_spec.specs.Folding.{taken}
 use Rattle.normalize_spec.specs.Links.{isRemoved}
 use Rattle.scan.specs.Places.{SameIs}
-use Rattle.work.specs.Rows.{span, Only, wordOf}
-use Rattle.work.proofs.Rows.{KeptWords, only-none, only-put, only-then, only-kept, kept-within, outside-less}
-use Rattle.work.proofs.Stores.{sets-here, sets-first}
+use Rattle.work.specs.Rows.{Only, wordOf}
+use Rattle.work.proofs.Rows.{KeptWords, only-none, only-kept}
 use Rattle.tables.specs.declared.tables.Bases.{Bases}
 use Rattle.tables.specs.declared.tables.Counts.{Counts}
 use Rattle.tables.specs.Segments.{idsOf}
 use Rattle.tables.specs.declared.rows.Place.{Place}
 use Rattle.tables.specs.declared.rows.LinkWords.{LinkWords}
-use Rattle.tables.specs.ByNumber.{linkNo, segmentsOf, linksTo, bytesIn, Inside, LinkIs}
+use Rattle.tables.specs.ByNumber.{linkNo, segmentsOf, linksTo, bytesIn, Inside, LinkIs, linkOf}
 use Rattle.tables.proofs.ByNumber.{links-more, link-stands, segments-length, links-zero}
 use Rattle.normalize_tables.specs.declared.layout.Layout.{Layout}
 use Rattle.normalize_tables.specs.declared.layout.Made.{Made}
@@ -37,12 +35,14 @@ use Rattle.normalize_tables.specs.Marks.{Marked}
 use Rattle.normalize_tables.specs.News.{newsAt, namesAt, placeOf}
 use Rattle.normalize_tables.proofs.Sources.{marked-stands, standing}
 use Rattle.normalize_tables.proofs.Numbered.{passes-named, passes-none}
+use Rattle.normalize_tables.proofs.NewByNumber.{ends-joined, ends-stand}
 use Rattle.normalize_tables.proofs.NewsStand.{new-rows-kept, paths-kept, source-kept, names-kept, front-kept}
 use Rattle.new_ids.specs.Ids.{Named, nodeAs, NodeIs}
 use Rattle.new_ids.specs.declared.ids.Node.{Node}
 use Rattle.new_ids.specs.declared.ids.Node.the-variants.{At, Nothing}
-use Rattle.link_ends.specs.declared.ends.Ends.{Ends}
-use Rattle.link_ends.specs.LinkEnds.{Relinkable, NodeWord, linkIn, GoneIs, EndsIs, endsNo, EndsRow, EndsPut, AllEnds}
+use Rattle.normalize_tables.specs.declared.rows.Ends.{Ends}
+use Rattle.normalize_tables.specs.NewByNumber.{endsNo, EndsPut, endsSpan}
+use Rattle.link_ends.specs.LinkEnds.{Relinkable, NodeWord, GoneIs, EndsIs, EndsRow, EndsSettled, AllEnds}
 use Rattle.link_ends.proofs.Places.{word-other, word-segment}
 
 -- ---- a node
@@ -96,18 +96,18 @@ module _ {text w : List ℕ} {b : Bases} {n : Counts} {g : Layout} (l : LinkWord
   unfolding isRemoved bit
   gone-turned h =
       record {
-        answer = λ p more k f. rw (ne-eqb (l .leaves) (l .enters) h) (by-test (isSelfLink (linkIn text l)) (λ e. rw e) (λ e. rw e));
+        answer = λ p more k f. rw (ne-eqb (l .leaves) (l .enters) h) (by-test (isSelfLink (linkOf text l)) (λ e. rw e) (λ e. rw e));
         few = omega arith;
         small = omega arith;
       }
 
   module _ (s : Source text w b n g) (t : not self ≡ false) (h : l .leaves ≡ l .enters) where
-    own-ends : isSelfLink (linkIn text l) ≡ true
+    own-ends : isSelfLink (linkOf text l) ≡ true
     unfolding isSelfLink
     own-ends = sym (q .answer) ∙ not-false self t
 
     -- the rest goes by the folded segments
-    by-folded : (p : Segment → Bool) → isRemoved (keep p (segmentsOf text w b n)) (linkIn text l) ≡ any (λ u. p u && same (u .id) (bytesIn text (l .from))) (segmentsOf text w b n)
+    by-folded : (p : Segment → Bool) → isRemoved (keep p (segmentsOf text w b n)) (linkOf text l) ≡ any (λ u. p u && same (u .id) (bytesIn text (l .from))) (segmentsOf text w b n)
     unfolding isRemoved
     by-folded p = rw (own-ends, eq-eqb (l .leaves) (l .enters) h, any-keep)
 
@@ -130,7 +130,7 @@ module _ {text w : List ℕ} {b : Bases} {n : Counts} {g : Layout} (l : LinkWord
     module _ (some-word : from ≡ 0 → ⊥) (low : from ≤ n .segs) {mark : ℕ} (em : mark ≡ getD w (g .folded + (from - 1)) 0) where
       by-mark : (p : Segment → Bool) (more : List (List ℕ)) → Marked p text w b n (g .folded)
           → from ≡ wordOf (placeOf (idsOf (segmentsOf text w b n) ++ more) (bytesIn text (l .from)))
-          → isRemoved (keep p (segmentsOf text w b n)) (linkIn text l) ≡ eqb mark 1
+          → isRemoved (keep p (segmentsOf text w b n)) (linkOf text l) ≡ eqb mark 1
       by-mark p more k f =
           let number = word-segment (segmentsOf text w b n) more (bytesIn text (l .from)) f some-word (rw (segments-length text w b (n .segs)) low) in
           by-folded p
@@ -163,15 +163,11 @@ module _ {text w w' : List ℕ} {b : Bases} {n : Counts} {g : Layout} (k : KeptW
   pub marks-stand : {p : Segment → Bool} → Source text w b n g → Marked p text w b n (g .folded) → Marked p text w' b n (g .folded)
   marks-stand s q = let d = s .placed in marked-stands (g .folded) s k (omega arith) (omega arith) q
 
--- the three words of link i, where they and the link are kept
-pub ends-kept : {text : List ℕ} {names : List (List ℕ)} {fs : List Segment} {w w' : List ℕ} {b : Bases} {g : Layout} {i : ℕ} → KeptWords (g .ends + 3 * i) (g .ends + 3 * i + 3) w w'
+-- the row of link i, where it and the link are kept
+pub ends-kept : {text : List ℕ} {names : List (List ℕ)} {fs : List Segment} {w w' : List ℕ} {b : Bases} {g : Layout} {i : ℕ} → endsNo w' g i ≡ endsNo w g i
     → linkNo text w' b i ≡ linkNo text w b i → EndsRow text names fs w b g i → EndsRow text names fs w' b g i
-ends-kept {g = g} {i = i} k l r =
-    record {
-      from = k .word (g .ends + 3 * i) (omega arith) (omega arith) ∙ r .from ∙ rw l;
-      to = k .word (g .ends + 3 * i + 1) (omega arith) (omega arith) ∙ r .to ∙ rw l;
-      gone = k .word (g .ends + 3 * i + 2) (omega arith) (omega arith) ∙ r .gone ∙ rw l;
-    }
+ends-kept k l r =
+    record { from = ap (λ e. e .from) k ∙ r .from ∙ rw l; to = ap (λ e. e .to) k ∙ r .to ∙ rw l; gone = ap (λ e. e .gone) k ∙ r .gone ∙ rw l }
 
 -- ---- a link
 
@@ -182,47 +178,33 @@ pub ends-are : {text w : List ℕ} {b : Bases} {n : Counts} {g : Layout} {m : Ma
 ends-are s f t q = record { from = f; to = t; gone = q; small = (omega arith, (omega arith, (omega arith, tt))); room = s .0 .source .placed .room }
 
 module _ {text w w' : List ℕ} {b : Bases} {n : Counts} {g : Layout} {m : Made} {i : ℕ} {l : LinkWords} {r : Ends} (s : Relinkable text w b n g m × (i < n .links))
-    (here : LinkIs text w b i l) (q : EndsIs text w b n g m l r) (e : w' ≡ sets w (g .ends + 3 * i) (r .from ∷ r .to ∷ r .gone ∷ [])) where
-  put-only : Only (span (g .ends + 3 * i) (g .ends + 3 * i + 3) ∷ []) w w'
-  put-only = rw e (only-put (r .from ∷ r .to ∷ r .gone ∷ []) w (g .ends + 3 * i))
-
+    (here : LinkIs text w b i l) (q : EndsIs text w b n g m l r) (put : EndsPut w w' g i r) where
   put-kept : KeptWords 0 (g .added) w w'
-  put-kept = let p = s .0 .source .placed in only-kept 0 (g .added) put-only (inl (omega arith), tt)
-
-  put-long : length w' ≡ length w
-  put-long = rw e (length-sets w (g .ends + 3 * i) (r .from ∷ r .to ∷ r .gone ∷ []))
-
-  put-room : g .ends + 3 * i + 3 ≤ length w
-  put-room = omega (arith, q .room, s .1)
+  put-kept = let p = s .0 .source .placed in only-kept 0 (g .added) (put .only) (inl (omega arith), tt)
 
   -- the link is as it was
-  link-same : linkNo text w' b i ≡ linkIn text l
+  link-same : linkNo text w' b i ≡ linkOf text l
   link-same = link-stands (s .0 .source .readable) (front-kept (s .0 .source) put-kept) i (s .1) ∙ here .link
 
-  third : endsNo w' g i .gone ≡ r .gone
-  third = rw e (sets-here (r .from ∷ r .to ∷ r .gone ∷ []) w (g .ends + 3 * i) 2 (omega arith) put-room)
-
-  put-row : (p : Segment → Bool) → Marked p text w b n (g .folded) → EndsRow text (namesAt text w b n g (m .first) (m .segs)) (keep p (segmentsOf text w b n)) w' b g i
-  put-row p k =
+  settled-row : (p : Segment → Bool) → Marked p text w b n (g .folded) → EndsRow text (namesAt text w b n g (m .first) (m .segs)) (keep p (segmentsOf text w b n)) w' b g i
+  settled-row p k =
       let news = map (λ x. x .id) (newsAt text w b g (m .first) (m .segs)) in
-      let first : endsNo w' g i .from ≡ r .from = rw e (sets-first (r .from ∷ r .to ∷ r .gone ∷ []) w (g .ends + 3 * i) (omega arith) put-room) in
-      let second : endsNo w' g i .to ≡ r .to = rw e (sets-here (r .from ∷ r .to ∷ r .gone ∷ []) w (g .ends + 3 * i) 1 (omega arith) put-room) in
       record {
-        from = rw link-same (first ∙ q .from .answer);
-        to = rw link-same (second ∙ q .to .answer);
-        gone = rw link-same (third ∙ q .gone .answer p news k (q .from .answer ∙ (unfold namesAt taken idsOf in refl)));
+        from = rw link-same (ap (λ e. e .from) (put .words) ∙ q .from .answer);
+        to = rw link-same (ap (λ e. e .to) (put .words) ∙ q .to .answer);
+        gone = rw link-same (ap (λ e. e .gone) (put .words) ∙ q .gone .answer p news k (q .from .answer ∙ (unfold namesAt taken idsOf in refl)));
       }
 
-  pub ends-put : EndsPut text w w' b n g m i (r .gone)
-  ends-put =
+  pub ends-settled : EndsSettled text w w' b n g m i (r .gone)
+  ends-settled =
       record {
-        ready = relinkable-stands put-kept put-long (s .0);
-        row = put-row;
-        answer = sym third;
+        ready = relinkable-stands put-kept (put .long) (s .0);
+        row = settled-row;
+        answer = sym (ap (λ e. e .gone) (put .words));
         few = rw (here .link) (q .gone .few);
         small = q .gone .small;
-        long = put-long;
-        only = put-only;
+        long = put .long;
+        only = put .only;
       }
 
 -- ---- all links
@@ -243,7 +225,7 @@ pub record Ending (text before work : List ℕ) (b : Bases) (n : Counts) (g : La
   pub few : removed ≤ count isSelfLink (linksTo text before b i)
   pub small : removed ≤ i
   pub long : length work ≡ length before
-  pub only : Only (span (g .ends) (g .ends + 3 * i) ∷ []) before work
+  pub only : Only (endsSpan g 0 i ∷ []) before work
 
 module _ {text before : List ℕ} {b : Bases} {n : Counts} {g : Layout} {m : Made} where
   pub ending-start : Relinkable text before b n g m → Ending text before before b n g m 0 0
@@ -265,7 +247,7 @@ module _ {text before : List ℕ} {b : Bases} {n : Counts} {g : Layout} {m : Mad
     ending-kept : KeptWords 0 (g .added) before work
     ending-kept = let p = s .relinkable .source .placed in only-kept 0 (g .added) (s .only) (inl (omega arith), tt)
 
-    module _ {work' : List ℕ} {r : ℕ} (h : i < n .links) (q : EndsPut text work work' b n g m i r) where
+    module _ {work' : List ℕ} {r : ℕ} (h : i < n .links) (q : EndsSettled text work work' b n g m i r) where
       src : Source text before b n g
       src = s .relinkable .source
 
@@ -286,9 +268,8 @@ module _ {text before : List ℕ} {b : Bases} {n : Counts} {g : Layout} {m : Mad
       old-row : {names : List (List ℕ)} {fs : List Segment} (j : ℕ) → j < i → EndsRow text names fs work b g j → EndsRow text names fs work' b g j
       old-row j l row =
           let d = src .placed in
-          let k = only-kept 0 (g .ends + 3 * j + 3) (q .only) (inl (omega arith), tt) in
           let now = s .ready .source in
-          ends-kept (kept-within (g .ends + 3 * j) (g .ends + 3 * j + 3) k (omega arith) (omega arith)) (link-stands (now .readable) (front-kept now later-kept) j (omega arith)) row
+          ends-kept (ends-stand g j (q .only) (inl (omega arith))) (link-stands (now .readable) (front-kept now later-kept) j (omega arith)) row
 
       gone-here : (p : Segment → Bool) → Marked p text before b n (g .folded) → r ≡ bit (isRemoved (keep p (segmentsOf text before b n)) (linkNo text before b i))
       gone-here p k =
@@ -310,10 +291,7 @@ module _ {text before : List ℕ} {b : Bases} {n : Counts} {g : Layout} {m : Mad
             few = rw (count-more isSelfLink text before b i) (omega (arith, s .few, few-here));
             small = omega (arith, s .small, q .small);
             long = q .long ∙ s .long;
-            only = only-then (span (g .ends) (g .ends + 3 * (i + 1)) ∷ []) (s .only) (q .only)
-                (λ j o. (let old = outside-less (g .ends) (g .ends + 3 * i) (o .0) (omega arith) (omega arith) in
-                let new = outside-less (g .ends + 3 * i) (g .ends + 3 * i + 3) (o .0) (omega arith) (omega arith) in
-                ((old, tt), (new, tt))));
+            only = ends-joined g i (s .only) (q .only);
           }
 
     pub ending-end : n .links ≤ i → AllEnds text before work b n g m removed

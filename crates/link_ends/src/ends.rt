@@ -1,14 +1,14 @@
 // The ends of the links of the text as node numbers, three words a link, and which links are removed (document 01, "Folding", rule 6).
-ghost use mathlib.Core.Path.{_≡_};
-ghost use Prim.Native.Nat.{_+_, _*_, _≤_, _<_};
-ghost use lib.ListN.{length};
+ghost use Prim.Native.Nat.{_+_, _<_};
 ghost use Rattle.tables.specs.ByNumber.{Inside};
 ghost use Rattle.normalize_tables.specs.Layout.{Source};
-ghost use Rattle.link_ends.specs.LinkEnds.{Relinkable, endsNo, NodeWord, GoneIs, EndsIs, EndsPut, AllEnds};
+ghost use Rattle.link_ends.specs.LinkEnds.{Relinkable, NodeWord, GoneIs, EndsIs, EndsSettled, AllEnds};
 use new_ids::ids::Node;
 use new_ids::ids::find_node;
 use normalize_tables::layout::Area;
 use normalize_tables::layout::Layout;
+use normalize_tables::rows::Ends;
+use normalize_tables::rows::put_ends;
 use scan::names::same_name;
 use tables::entry::LinkNo;
 use tables::rows::LinkWords;
@@ -16,15 +16,7 @@ use tables::rows::Place;
 use tables::rows::link_at;
 use tables::tables::Bases;
 use tables::tables::Counts;
-use work::work::put_row;
 use work::work::word;
-
-// The words of a link: those for its nodes, and 1 where it is removed, else 0.
-pub struct Ends {
-    pub from: usize,
-    pub to: usize,
-    pub gone: usize,
-}
 
 // The number plus one of the node that has the name, or 0.
 pub fn node_word(text: &[u8], work: &[u32], a: Area, name: Place) -> usize
@@ -68,19 +60,6 @@ pub fn gone_mark(
     1
 }
 
-// The words of link `i`, as they were put.
-pub fn ends_at(work: &[u32], a: Area, i: LinkNo) -> Ends
-    requires { ⌜ (a .g .ends + 3 * a .n .links ≤ length (now work)) × (i .0 < a .n .links) ⌝ }
-    ensures { λ r. ⌜ r ≡ endsNo (now (work .entry)) (a .g) (i .0) ⌝ }
-{
-    let at = a.g.ends + 3 * i.0 as usize;
-    Ends {
-        from: word(work, at),
-        to: word(work, at + 1),
-        gone: word(work, at + 2),
-    }
-}
-
 // The three words of a link.
 pub fn ends_of(text: &[u8], work: &[u32], a: Area, l: LinkWords) -> Ends
     requires { ⌜ Relinkable (now text) (now work) (a .b) (a .n) (a .g) (a .m) × Inside (now text) (l .from) × Inside (now text) (l .to) ⌝ }
@@ -93,14 +72,13 @@ pub fn ends_of(text: &[u8], work: &[u32], a: Area, l: LinkWords) -> Ends
 }
 
 // Puts the words of link `i`; answers whether it is removed.
-pub fn put_ends(text: &[u8], work: &mut [u32], a: Area, i: LinkNo) -> usize
+pub fn settle_ends(text: &[u8], work: &mut [u32], a: Area, i: LinkNo) -> usize
     requires { ⌜ Relinkable (now text) (now work) (a .b) (a .n) (a .g) (a .m) × (i .0 < a .n .links) ⌝ }
-    ensures { λ r. ⌜ EndsPut (now (text .entry)) (now (work .entry)) (now (work .exit)) (a .b) (a .n) (a .g) (a .m) (i .0) r ⌝ }
+    ensures { λ r. ⌜ EndsSettled (now (text .entry)) (now (work .entry)) (now (work .exit)) (a .b) (a .n) (a .g) (a .m) (i .0) r ⌝ }
 {
-    let at = a.g.ends + 3 * i.0 as usize;
     let l = link_at(text, work, a.b, a.n, i);
     let e = ends_of(text, work, a, l);
-    put_row(work, at, &[e.from, e.to, e.gone]);
+    put_ends(work, a.g, i, e);
     e.gone
 }
 
@@ -112,7 +90,7 @@ pub fn put_all_ends(text: &[u8], work: &mut [u32], a: Area) -> usize
     let mut removed = 0;
     let mut i = 0;
     while i < a.n.links {
-        removed += put_ends(text, work, a, LinkNo(i as u32));
+        removed += settle_ends(text, work, a, LinkNo(i as u32));
         i += 1;
     }
     removed

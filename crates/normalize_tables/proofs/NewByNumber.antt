@@ -5,14 +5,14 @@ use native.Mathlib.Nat.{mul-suc}
 use native.Mathlib.Numerals.{add-one}
 use mathlib.Core.Bool.{false}
 use mathlib.Core.List.{List, [], _∷_, _++_}
-use mathlib.Core.Logic.{inl, inr}
+use mathlib.Core.Logic.{_⊎_, inl, inr}
 use mathlib.Core.Path.{_≡_, refl, ap}
 use lib.Dec.{eqb}
 use lib.ListN.{length, getD}
 use lib.Seq.{sets, length-sets}
 use borrow.Author.Tests.{eq-eqb, ne-eqb}
 use Rattle.work.specs.Rows.{rowsAt, span, Only}
-use Rattle.work.proofs.Rows.{KeptWords, only-put, only-kept, rows-snoc, rows-length}
+use Rattle.work.proofs.Rows.{KeptWords, only-put, only-then, only-kept, outside-less, rows-snoc, rows-length}
 use Rattle.work.proofs.Stores.{sets-here, sets-first}
 use Rattle.work.proofs.RowCuts.{rows-split, rows-all, rows-cons, rows-none}
 use Rattle.tables.specs.declared.tables.Bases.{Bases}
@@ -22,9 +22,10 @@ use Rattle.normalize_tables.specs.declared.layout.Made.{Made}
 use Rattle.normalize_tables.specs.declared.rows.NewSegmentWords.{NewSegmentWords}
 use Rattle.normalize_tables.specs.declared.rows.NewStepWords.{NewStepWords}
 use Rattle.normalize_tables.specs.declared.rows.NewPathWords.{NewPathWords}
+use Rattle.normalize_tables.specs.declared.rows.Ends.{Ends}
 use Rattle.normalize_tables.specs.Layout.{Placed}
 use Rattle.normalize_tables.specs.News.{segmentWords, stepWords, pathWords, newAt, newStepAt, newStepsAt, newPathAt, newPathsAt}
-use Rattle.normalize_tables.specs.NewByNumber.{newStepNo, newStepsFrom, newPathNo, newPathsTo, newPathsFrom, stepIs, SegmentRoom, StepRoom, PathRoom, SegmentRows, StepRows, PathRows, NewSegmentIs, NewStepIs, NewPathIs, stepSpan, pathSpan, NewSegmentPut, NewStepPut, NewPathPut, KeptTo, SegmentsKept, StepsKept, PathsKept}
+use Rattle.normalize_tables.specs.NewByNumber.{newStepNo, newStepsFrom, newPathNo, newPathsTo, newPathsFrom, stepIs, endsNo, SegmentRoom, StepRoom, PathRoom, EndsRoom, SegmentRows, StepRows, PathRows, NewSegmentIs, NewStepIs, NewPathIs, stepSpan, pathSpan, NewSegmentPut, NewStepPut, NewPathPut, EndsPut, endsEnd, endsSpan, KeptTo, SegmentsKept, StepsKept, PathsKept}
 
 -- ---- what a row says
 
@@ -81,6 +82,18 @@ module _ {w w' : List ℕ} {g : Layout} where
         only = put-only (g .steps) 2 k row w refl;
       })
 
+  pub ends-put : (i : ℕ) (r : Ends) → EndsRoom w g (i + 1) → w' ≡ sets w (g .ends + 3 * i) (r .from ∷ r .to ∷ r .gone ∷ []) → EndsPut w w' g i r
+  ends-put i r h e =
+      let row = r .from ∷ r .to ∷ r .gone ∷ [] in
+      let at = g .ends + 3 * i in
+      let room : at + 3 ≤ length w = omega arith in
+      rw e
+      (record {
+        words = rw (sets-first row w at (omega arith) room, sets-here row w at 1 (omega arith) room, sets-here row w at 2 (omega arith) room);
+        long = length-sets w at row;
+        only = put-only (g .ends) 3 i row w refl;
+      })
+
   pub path-put : (p : ℕ) (r : NewPathWords) → PathRoom w g (p + 1) → r .first ≤ r .end → w' ≡ sets w (g .paths + 2 * p) (r .first ∷ (r .end - r .first) ∷ []) → NewPathPut w w' g p r
   path-put p r h l e =
       let row = r .first ∷ (r .end - r .first) ∷ [] in
@@ -93,6 +106,25 @@ module _ {w w' : List ℕ} {g : Layout} where
         long = length-sets w at row;
         only = put-only (g .paths) 2 p row w refl;
       })
+
+-- the ends of one link more
+pub ends-joined : {w v u : List ℕ} (g : Layout) (i : ℕ) → Only (endsSpan g 0 i ∷ []) w v → Only (endsSpan g i (i + 1) ∷ []) v u → Only (endsSpan g 0 (i + 1) ∷ []) w u
+ends-joined g i old new =
+    only-then (endsSpan g 0 (i + 1) ∷ []) old new
+    (λ j o.
+    let before = outside-less (endsEnd g 0) (endsEnd g i) (o .0) (omega arith) (omega arith) in
+    let here = outside-less (endsEnd g i) (endsEnd g (i + 1)) (o .0) (omega arith) (omega arith) in
+    ((before, tt), (here, tt)))
+
+-- the ends of a link, where the words that changed are behind its row or before the table
+pub ends-stand : {w w' : List ℕ} {from to : ℕ} (g : Layout) (j : ℕ) → Only (span from to ∷ []) w w' → (g .ends + 3 * (j + 1) ≤ from) ⊎ (to ≤ g .ends) → endsNo w' g j ≡ endsNo w g j
+ends-stand {w} {w'} {from} {to} g j o h =
+    let k : KeptWords (g .ends + 3 * j) (g .ends + 3 * j + 3) w w' = only-kept (g .ends + 3 * j) (g .ends + 3 * j + 3) o (apart h, tt) in
+    rw (k .word (g .ends + 3 * j) (omega arith) (omega arith), k .word (g .ends + 3 * j + 1) (omega arith) (omega arith), k .word (g .ends + 3 * j + 2) (omega arith) (omega arith))
+  where
+    apart : (g .ends + 3 * (j + 1) ≤ from) ⊎ (to ≤ g .ends) → (g .ends + 3 * j + 3 ≤ from) ⊎ (to ≤ g .ends + 3 * j)
+    apart (inl l) = inl (omega arith)
+    apart (inr l) = inr (omega arith)
 
 -- ---- rows that are kept
 

@@ -17,6 +17,7 @@ use Rattle.normalize_tables.specs.declared.layout.Made.{Made}
 use Rattle.normalize_tables.specs.declared.rows.NewSegmentWords.{NewSegmentWords}
 use Rattle.normalize_tables.specs.declared.rows.NewStepWords.{NewStepWords}
 use Rattle.normalize_tables.specs.declared.rows.NewPathWords.{NewPathWords}
+use Rattle.normalize_tables.specs.declared.rows.Ends.{Ends}
 use Rattle.normalize_tables.specs.News.{segmentWords, stepWords, pathWords, newOf, newAt, NewRow, newStepAt, newStepsAt, NewStepRow, newPathAt, newPathsAt, NewPathRow}
 
 -- ---- numbers
@@ -39,9 +40,17 @@ newPathsTo names work g p = newPathsAt names (g .steps) work (g .paths) p
 abbrev pub newPathsFrom : List (List ℕ) → List ℕ → Counts → Layout → ℕ → List (List NewStep)
 newPathsFrom names work n g p = newPathsAt names (g .steps) work (g .paths + 2 * p) (n .paths - p)
 
+-- the three words of the ends of link i
+abbrev pub endsNo : List ℕ → Layout → ℕ → Ends
+endsNo work g i = record { from = getD work (g .ends + 3 * i) 0; to = getD work (g .ends + 3 * i + 1) 0; gone = getD work (g .ends + 3 * i + 2) 0 }
+
+-- the word behind the rows of the ends of the first i links
+abbrev pub endsEnd : Layout → ℕ → ℕ
+endsEnd g i = g .ends + 3 * i
+
 -- ---- what is asked of a table
 
--- the rows of the first q new segments, of the first k new steps, of the first p new paths are in the work area
+-- the rows of the first q new segments, of the first k new steps, of the first p new paths, of the ends of the first i links are in the work area
 abbrev pub SegmentRoom : List ℕ → Layout → ℕ → Type 0
 SegmentRoom work g q = g .segs + 4 * q ≤ length work
 
@@ -50,6 +59,9 @@ StepRoom work g k = g .steps + 2 * k ≤ length work
 
 abbrev pub PathRoom : List ℕ → Layout → ℕ → Type 0
 PathRoom work g p = g .paths + 2 * p ≤ length work
+
+abbrev pub EndsRoom : List ℕ → Layout → ℕ → Type 0
+EndsRoom work g i = endsEnd g i ≤ length work
 
 -- the rows of the first q new segments may be relied on; those of the first t new steps, which are on so many nodes, and of all; those of the
 -- first p new paths, which have so many steps, and of all
@@ -122,6 +134,9 @@ stepSpan g k end = span (g .steps + 2 * k) (g .steps + 2 * end)
 abbrev pub pathSpan : Layout → ℕ → ℕ → Range
 pathSpan g p end = span (g .paths + 2 * p) (g .paths + 2 * end)
 
+abbrev pub endsSpan : Layout → ℕ → ℕ → Range
+endsSpan g i end = span (endsEnd g i) (endsEnd g end)
+
 -- New segment j has these words; only its row has changed.
 pub record NewSegmentPut (before work : List ℕ) (g : Layout) (j : ℕ) (r : NewSegmentWords) : Type 0 where
   pub words : segmentWords work g j ≡ r
@@ -139,6 +154,12 @@ pub record NewPathPut (before work : List ℕ) (g : Layout) (p : ℕ) (r : NewPa
   pub words : pathWords work g p ≡ r
   pub long : length work ≡ length before
   pub only : Only (pathSpan g p (p + 1) ∷ []) before work
+
+-- So of the ends of link i.
+pub record EndsPut (before work : List ℕ) (g : Layout) (i : ℕ) (r : Ends) : Type 0 where
+  pub words : endsNo work g i ≡ r
+  pub long : length work ≡ length before
+  pub only : Only (endsSpan g i (i + 1) ∷ []) before work
 
 -- ---- rows that are kept
 

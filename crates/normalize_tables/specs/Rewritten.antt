@@ -3,7 +3,7 @@ use Prim.Native.Nat.{ℕ, _+_, _*_, _≤_, _<_}
 use mathlib.Core.Bool.{not}
 use mathlib.Core.List.{List, map}
 use mathlib.Core.Path.{_≡_}
-use lib.ListN.{length, getD}
+use lib.ListN.{length}
 use Rattle.gfa_spec.specs.Bytes.{any, count, keep, join, sum}
 use Rattle.gfa_spec.specs.Reading.{Segment}
 use Rattle.gfa_spec.specs.Runs.{bit, runs as runsOf}
@@ -17,7 +17,7 @@ use Rattle.tables.specs.ByNumber.{linkNo, segmentsOf, linksTo, pathsTo}
 use Rattle.normalize_tables.specs.declared.layout.Layout.{Layout}
 use Rattle.normalize_tables.specs.declared.layout.Made.{Made}
 use Rattle.normalize_tables.specs.News.{firstNumber, newsAt, namesAt, keysAt, KeyRow}
-use Rattle.normalize_tables.specs.NewByNumber.{newPathsTo, SegmentRows, StepRows, PathRows}
+use Rattle.normalize_tables.specs.NewByNumber.{newPathsTo, endsNo, SegmentRows, StepRows, PathRows}
 
 -- The rows of the new segments, steps and paths may be relied on.
 pub record NewRows (work : List ℕ) (n : Counts) (g : Layout) (m : Made) : Type 0 where
@@ -39,7 +39,7 @@ pub record Folded (text work : List ℕ) (b : Bases) (n : Counts) (g : Layout) (
 
 -- The removed links are marked in the third word of their ends, and the added links stand in their table.
 pub record Relinked (text work : List ℕ) (b : Bases) (n : Counts) (g : Layout) (fs : List Segment) (m : Made) (extra : ℕ) : Type 0 where
-  pub removed : (i : ℕ) → i < n .links → getD work (g .ends + 3 * i + 2) 0 ≡ bit (isRemoved fs (linkNo text work b i))
+  pub removed : (i : ℕ) → i < n .links → endsNo work g i .gone ≡ bit (isRemoved fs (linkNo text work b i))
   pub keys : keysAt (namesAt text work b n g (m .first) (m .segs)) (g .steps) work (g .added) extra
       ≡ missing (map keyOf (keep (λ l. not (isRemoved fs l)) (linksTo text work b (n .links)))) (join (map adjacent (newPathsTo (namesAt text work b n g (m .first) (m .segs)) work g (n .paths))))
   pub rows : EachRow (KeyRow (m .steps)) 1 work (g .added) extra

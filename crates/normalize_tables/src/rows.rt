@@ -2,9 +2,10 @@
 // neither where a row is nor how wide it is.
 ghost use mathlib.Core.Path.{_≡_};
 ghost use Prim.Native.Nat.{_+_, _≤_, _<_};
-ghost use Rattle.normalize_tables.specs.NewByNumber.{NewSegmentThere, NewSegmentIs, NewStepThere, NewStepIs, NewPathThere, NewPathIs, stepIs, SegmentRoom, StepRoom, PathRoom, NewSegmentPut, NewStepPut, NewPathPut};
+ghost use Rattle.normalize_tables.specs.NewByNumber.{NewSegmentThere, NewSegmentIs, NewStepThere, NewStepIs, NewPathThere, NewPathIs, stepIs, endsNo, SegmentRoom, StepRoom, PathRoom, EndsRoom, NewSegmentPut, NewStepPut, NewPathPut, EndsPut};
 use crate::layout::Area;
 use crate::layout::Layout;
+use tables::entry::LinkNo;
 use tables::entry::PathNo;
 use tables::entry::SegmentNo;
 use work::work::put_row;
@@ -28,6 +29,13 @@ pub struct NewStepWords {
 pub struct NewPathWords {
     pub first: usize,
     pub end: usize,
+}
+
+// The row of a link's ends: the words for its nodes, and 1 where it is removed, else 0.
+pub struct Ends {
+    pub from: usize,
+    pub to: usize,
+    pub gone: usize,
 }
 
 // New segment `j`.
@@ -71,6 +79,19 @@ pub fn new_path_at(work: &[u32], a: Area, p: PathNo) -> NewPathWords
     }
 }
 
+// The ends of link `i`.
+pub fn ends_at(work: &[u32], a: Area, i: LinkNo) -> Ends
+    requires { ⌜ EndsRoom (now work) (a .g) (a .n .links) × (i .0 < a .n .links) ⌝ }
+    ensures { λ r. ⌜ r ≡ endsNo (now (work .entry)) (a .g) (i .0) ⌝ }
+{
+    let at = a.g.ends + 3 * i.0 as usize;
+    Ends {
+        from: word(work, at),
+        to: word(work, at + 1),
+        gone: word(work, at + 2),
+    }
+}
+
 // Are two new steps equal?
 pub fn same_new_step(s: NewStepWords, t: NewStepWords) -> bool
     ensures { λ r. ⌜ r ≡ stepIs s t ⌝ }
@@ -108,4 +129,12 @@ pub fn put_new_path(work: &mut [u32], g: Layout, p: PathNo, r: NewPathWords)
         g.paths + 2 * p.0 as usize,
         &[r.first, r.end - r.first],
     );
+}
+
+// Puts the row of link `i`.
+pub fn put_ends(work: &mut [u32], g: Layout, i: LinkNo, r: Ends)
+    requires { ⌜ EndsRoom (now work) g (i .0 + 1) × (r .from < 4294967296) × (r .to < 4294967296) × (r .gone < 4294967296) ⌝ }
+    ensures { λ _. ⌜ EndsPut (now (work .entry)) (now (work .exit)) g (i .0) r ⌝ }
+{
+    put_row(work, g.ends + 3 * i.0 as usize, &[r.from, r.to, r.gone]);
 }

@@ -31,7 +31,7 @@ use Rattle.normalize_tables.specs.News.{pathWords, namesAt, newPathsAt, keyAt, 
 use Rattle.normalize_tables.specs.NewByNumber.{newStepNo, newStepsFrom, newPathNo, newPathsTo, NewPathIs}
 use Rattle.normalize_tables.proofs.Nodes.{same-place}
 use Rattle.normalize_tables.proofs.Sources.{standing}
-use Rattle.normalize_tables.proofs.NewByNumber.{new-paths-more, new-steps-next, new-steps-length, new-path-is, new-steps-alike, paths-words, first-kept, end-kept}
+use Rattle.normalize_tables.proofs.NewByNumber.{ends-stand, new-paths-more, new-steps-next, new-steps-length, new-path-is, new-steps-alike, paths-words, first-kept, end-kept}
 use Rattle.normalize_tables.proofs.NewsStand.{new-step-kept, front-kept}
 use Rattle.relink.specs.declared.lookup.Pair.{Pair}
 use Rattle.relink.specs.declared.pairs.Tally.{Tally}
@@ -43,12 +43,9 @@ use Rattle.relink.proofs.Lookups.{pair-key}
 -- ---- what is kept
 
 module _ {text w w' : List ℕ} {b : Bases} {n : Counts} {g : Layout} {m : Made} (s : Relinkable text w b n g m) (o : Only (span (g .added) (g .added + n .steps) ∷ []) w w') where
-  -- the words before the added links, and those behind them
+  -- the words before the added links
   pub before-kept : KeptWords 0 (g .added) w w'
   before-kept = only-kept 0 (g .added) o (inl (omega arith), tt)
-
-  behind-kept : KeptWords (g .ends) (g .ends + 3 * n .links) w w'
-  behind-kept = let p = s .source .placed in only-kept (g .ends) (g .ends + 3 * n .links) o (inr (omega arith), tt)
 
   links-same : linksTo text w' b (n .links) ≡ linksTo text w b (n .links)
   links-same = standing (s .source) (front-kept (s .source) before-kept) .of-links
@@ -74,7 +71,7 @@ module _ {text w w' : List ℕ} {b : Bases} {n : Counts} {g : Layout} {m : Made}
         apart = e .apart;
         all = e .all;
         ends = λ i h.
-            ends-kept (kept-within (g .ends + 3 * i) (g .ends + 3 * i + 3) behind-kept (omega arith) (omega arith))
+            ends-kept (ends-stand g i o (inr (s .source .placed .ends)))
             (link-stands (s .source .readable) (front-kept (s .source) before-kept) i h) (e .ends i h);
       }
 

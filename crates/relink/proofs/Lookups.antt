@@ -24,12 +24,12 @@ use Rattle.normalize_tables.specs.declared.layout.Layout.{Layout}
 use Rattle.normalize_tables.specs.declared.layout.Made.{Made}
 use Rattle.normalize_tables.specs.declared.rows.NewStepWords.{NewStepWords}
 use Rattle.normalize_tables.specs.News.{placeOf, keyAt, keysAt}
-use Rattle.normalize_tables.specs.NewByNumber.{stepIs, stepIn}
+use Rattle.normalize_tables.specs.NewByNumber.{stepIs, stepIn, endsNo}
 use Rattle.normalize_tables.proofs.Nodes.{same-place}
-use Rattle.link_ends.specs.declared.ends.Ends.{Ends}
+use Rattle.normalize_tables.specs.declared.rows.Ends.{Ends}
 use Rattle.relink.specs.declared.lookup.Pair.{Pair}
 use Rattle.relink.specs.Relinking.{AddedRows, Ended, pairNo, keyIn, PairIs, PairThere, keptKeys, pairIs, nodesAre, marksAre, LinkMatch, KeptIs, AddedMatch, LinkFound}
-use Rattle.link_ends.specs.LinkEnds.{Relinkable, endsNo}
+use Rattle.link_ends.specs.LinkEnds.{Relinkable}
 use Rattle.link_ends.proofs.Places.{place-says}
 use Rattle.work.specs.Rows.{wordOf}
 

@@ -1,5 +1,5 @@
 -- All links: those that are removed, kept and added. Assumes nothing.
-use Prim.Native.Nat.{ℕ, _+_, _*_, _-_, _≤_, _<_}
+use Prim.Native.Nat.{ℕ, _+_, _-_, _≤_, _<_}
 use native.Mathlib.Omega.{arith}
 use mathlib.Core.Bool.{Bool, true, not, _&&_}
 use mathlib.Core.List.{List, [], _∷_, map, append-nil}
@@ -22,7 +22,7 @@ use Rattle.normalize_tables.specs.declared.layout.Layout.{Layout}
 use Rattle.normalize_tables.specs.declared.layout.Made.{Made}
 use Rattle.normalize_tables.specs.Marks.{Marked}
 use Rattle.normalize_tables.specs.News.{namesAt, keysAt}
-use Rattle.normalize_tables.specs.NewByNumber.{newPathsTo}
+use Rattle.normalize_tables.specs.NewByNumber.{endsEnd, newPathsTo}
 use Rattle.normalize_tables.proofs.Nodes.{names-length}
 use Rattle.normalize_tables.proofs.Sources.{standing}
 use Rattle.normalize_tables.proofs.NewsStand.{names-kept, paths-kept, front-kept}
@@ -123,8 +123,8 @@ module _ {text w v : List ℕ} {b : Bases} {n : Counts} {g : Layout} {m : Made} 
           rows = c .grows .rows .keys;
           few = omega (arith, c .grows .high);
           long = c .grows .long ∙ a .long;
-          only = (let d = s .source .placed in only-then (span (g .added) (g .ends + 3 * n .links) ∷ []) (a .only) (c .grows .only)
-              (λ i o. (let ends = outside-less (g .ends) (g .ends + 3 * n .links) (o .0) (omega arith) (omega arith) in
+          only = (let d = s .source .placed in only-then (span (g .added) (endsEnd g (n .links)) ∷ []) (a .only) (c .grows .only)
+              (λ i o. (let ends = outside-less (endsEnd g 0) (endsEnd g (n .links)) (o .0) (omega arith) (omega arith) in
               let added = outside-less (g .added) (g .added + n .steps) (o .0) (omega arith) (omega arith) in
               ((ends, tt), (added, tt)))));
         }

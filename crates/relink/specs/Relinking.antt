@@ -1,5 +1,5 @@
 -- The links that are kept, and those that are added. Document 01, "Folding", rule 6.
-use Prim.Native.Nat.{ℕ, _+_, _*_, _-_, _≤_, _<_}
+use Prim.Native.Nat.{ℕ, _+_, _-_, _≤_, _<_}
 use mathlib.Core.Bool.{Bool, true, cond, not, _&&_}
 use mathlib.Core.List.{List, [], _∷_, _++_, map}
 use mathlib.Core.Path.{_≡_}
@@ -18,9 +18,9 @@ use Rattle.normalize_tables.specs.declared.layout.Layout.{Layout}
 use Rattle.normalize_tables.specs.declared.layout.Made.{Made}
 use Rattle.normalize_tables.specs.Marks.{Marked}
 use Rattle.normalize_tables.specs.News.{namesAt, keysAt, KeyRow}
-use Rattle.normalize_tables.specs.NewByNumber.{newStepNo, newStepsFrom, newPathsTo, NewStepIs, stepIn, stepIs}
+use Rattle.normalize_tables.specs.NewByNumber.{endsEnd, newStepNo, newStepsFrom, newPathsTo, NewStepIs, stepIn, stepIs}
 use Rattle.normalize_tables.specs.Rewritten.{Relinked}
-use Rattle.link_ends.specs.declared.ends.Ends.{Ends}
+use Rattle.normalize_tables.specs.declared.rows.Ends.{Ends}
 use Rattle.link_ends.specs.LinkEnds.{Relinkable, EndsRow}
 use Rattle.relink.specs.declared.lookup.Pair.{Pair}
 use Rattle.relink.specs.declared.pairs.Tally.{Tally}
@@ -162,4 +162,4 @@ pub record SettledIs (text before work : List ℕ) (b : Bases) (n : Counts) (g :
   pub rows : EachRow (KeyRow (m .steps)) 1 work (g .added) (r .added)
   pub few : r .added ≤ m .steps
   pub long : length work ≡ length before
-  pub only : Only (span (g .added) (g .ends + 3 * n .links) ∷ []) before work
+  pub only : Only (span (g .added) (endsEnd g (n .links)) ∷ []) before work

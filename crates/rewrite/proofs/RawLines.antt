@@ -1,11 +1,10 @@
 -- Lines that are written as they came: what a row says of them. Assumes nothing.
-use Prim.Native.Nat.{ℕ, _+_, _*_, _≤_, _<_}
+use Prim.Native.Nat.{ℕ, _≤_, _<_}
 use native.Mathlib.Omega.{arith}
 use mathlib.Core.Bool.{cond}
 use mathlib.Core.List.{List, [], _∷_, append-nil}
-use mathlib.Core.Path.{_≡_, refl}
+use mathlib.Core.Path.{_≡_, refl, ap}
 use lib.Dec.{eqb}
-use lib.ListN.{getD}
 use borrow.Author.Tests.{eq-eqb, ne-eqb}
 use Rattle.gfa_spec.specs.Bytes.{nil, join, endLine, ended}
 use Rattle.gfa_spec.specs.Reading.{choose}
@@ -21,6 +20,8 @@ use Rattle.tables.specs.declared.rows.SegmentWords.{SegmentWords}
 use Rattle.tables.specs.Entries.{entryOf, Fits}
 use Rattle.tables.specs.ByNumber.{bytesIn, Inside, LineIs, SegmentIs, LinkIs}
 use Rattle.normalize_tables.specs.declared.layout.Layout.{Layout}
+use Rattle.normalize_tables.specs.declared.rows.Ends.{Ends}
+use Rattle.normalize_tables.specs.NewByNumber.{endsNo}
 use Rattle.rewrite.specs.declared.lines.Class.{Class}
 use Rattle.rewrite.specs.declared.lines.Raw.{Raw}
 use Rattle.rewrite.specs.Pieces.{classNo, rawOf, classLines, rawPiece, segmentPiece, keptPiece}
@@ -73,13 +74,13 @@ module _ {text work : List ℕ} {b : Bases} {i limit at r : ℕ} {out out' : Lis
   segment-written q v = rw (q .segment) v
 
   -- the line of a link that is kept
-  pub kept-written : (g : Layout) {mark : ℕ} {l : LinkWords} → mark ≡ getD work (g .ends + 3 * i + 2) 0 → mark ≡ 0 → LinkIs text work b i l
+  pub kept-written : (g : Layout) {e : Ends} {l : LinkWords} → e ≡ endsNo work g i → e .gone ≡ 0 → LinkIs text work b i l
       → Wrote limit out at (endLine (bytesIn text (l .line))) out' r → Wrote limit out at (keptPiece text work b g i) out' r
   unfolding keptPiece
-  kept-written g {mark} e z q v = rw (← e, z, q .link) v
+  kept-written g f z q v = rw (← (ap (λ e. e .gone) f), z, q .link) v
 
 -- a link that is removed
-pub kept-passed : (text work : List ℕ) (b : Bases) (g : Layout) (i : ℕ) {limit at mark : ℕ} {out : List ℕ} → mark ≡ getD work (g .ends + 3 * i + 2) 0 → (mark ≡ 0 → ⊥) → at ≤ limit
+pub kept-passed : (text work : List ℕ) (b : Bases) (g : Layout) (i : ℕ) {limit at : ℕ} {out : List ℕ} {e : Ends} → e ≡ endsNo work g i → (e .gone ≡ 0 → ⊥) → at ≤ limit
     → Wrote limit out at (keptPiece text work b g i) out at
 unfolding keptPiece
-kept-passed text work b g i {mark = mark} e z l = rw (← e, ne-eqb mark 0 z) (nothing (omega arith))
+kept-passed text work b g i {e = e} f z l = rw (← (ap (λ e. e .gone) f), ne-eqb (e .gone) 0 z) (nothing (omega arith))

@@ -6,7 +6,7 @@ use mathlib.Core.Bool.{Bool, true, false, cond, not}
 use mathlib.Core.List.{List, [], _∷_, _++_, map, append-nil}
 use mathlib.Core.Path.{_≡_, refl, sym, _∙_}
 use lib.Dec.{eqb}
-use lib.ListN.{length, getD}
+use lib.ListN.{length}
 use Rattle.gfa_spec.specs.Bytes.{join, keep, endLine, ended, one, nil}
 use Rattle.gfa_spec.specs.Reading.{Entry, Link, Path, choose}
 use Rattle.gfa_spec.specs.Records.{collect, leading, others}
@@ -25,7 +25,7 @@ use Rattle.tables.specs.ByNumber.{entryNo, segmentNo, linkNo, pathNo, segmentsT
 use Rattle.tables.proofs.ByNumber.{segments-more, links-more, paths-more, paths-length, entries-more, entries-zero, segments-zero, links-zero, paths-zero}
 use Rattle.normalize_tables.specs.declared.layout.Layout.{Layout}
 use Rattle.normalize_tables.specs.News.{newAt, newsAt, newPathsAt, keyAt, keysAt}
-use Rattle.normalize_tables.specs.NewByNumber.{newPathNo, newPathsTo}
+use Rattle.normalize_tables.specs.NewByNumber.{newPathNo, newPathsTo, endsNo}
 use Rattle.normalize_tables.proofs.Nodes.{news-more}
 use Rattle.normalize_tables.proofs.NewByNumber.{new-paths-more}
 use Rattle.rewrite.specs.declared.lines.Class.{Class}
@@ -88,7 +88,7 @@ mark-line false v l e = rw (e, append-nil)
 
 -- the links that are not marked
 pub kept-pieces : (p : Link → Bool) (text work : List ℕ) (b : Bases) (g : Layout) (n : ℕ)
-    → ((i : ℕ) → i < n → getD work (g .ends + 3 * i + 2) 0 ≡ bit (p (linkNo text work b i)))
+    → ((i : ℕ) → i < n → endsNo work g i .gone ≡ bit (p (linkNo text work b i)))
     → ended (map (λ l. l .line) (keep (λ l. not (p l)) (linksTo text work b n))) ≡ piecesTo (keptPiece text work b g) n
 unfolding keptPiece
 kept-pieces p text work b g n h =

@@ -1,5 +1,5 @@
 -- The pieces of the rewritten text, by the numbers of the rows. Document 01, "Folding", rule 7.
-use Prim.Native.Nat.{ℕ, _+_, _*_}
+use Prim.Native.Nat.{ℕ, _+_}
 use mathlib.Core.Bool.{cond}
 use mathlib.Core.List.{List, [], _∷_, _++_}
 use lib.Dec.{eqb}
@@ -14,7 +14,7 @@ use Rattle.tables.specs.declared.tables.Bases.{Bases}
 use Rattle.tables.specs.ByNumber.{entryNo, segmentNo, linkNo}
 use Rattle.normalize_tables.specs.declared.layout.Layout.{Layout}
 use Rattle.normalize_tables.specs.News.{newAt}
-use Rattle.normalize_tables.specs.NewByNumber.{newStepNo}
+use Rattle.normalize_tables.specs.NewByNumber.{newStepNo, endsNo}
 use Rattle.rewrite.specs.declared.lines.Class.{Class}
 use Rattle.rewrite.specs.declared.lines.Class.the-variants as class
 use Rattle.rewrite.specs.declared.lines.Raw.{Raw}
@@ -55,9 +55,9 @@ segmentPiece text work b i = endLine (segmentNo text work b i .line)
 unfoldable pub newPiece : List ℕ → List ℕ → Bases → Layout → ℕ → ℕ → List ℕ
 newPiece text work b g first j = endLine (segmentLine (newAt text b g first work j))
 
--- the line of link i, where it is not marked as removed in the third word of its ends
+-- the line of link i, where it is not marked as removed
 unfoldable pub keptPiece : List ℕ → List ℕ → Bases → Layout → ℕ → List ℕ
-keptPiece text work b g i = cond (eqb (getD work (g .ends + 3 * i + 2) 0) 0) (endLine (linkNo text work b i .line)) []
+keptPiece text work b g i = cond (eqb (endsNo work g i .gone) 0) (endLine (linkNo text work b i .line)) []
 
 -- one end of an added link: its name, a tab (9), its orientation, a tab
 unfoldable pub stepEnd : NewStep → List ℕ

@@ -8,6 +8,7 @@ ghost use Rattle.rewrite.specs.Pieces.{keptPiece, stepEnd, pairLine, add
 ghost use Rattle.path_lines.specs.PathPieces.{nodes, Rewritable};
 use new_ids::ids::put_id;
 use normalize_tables::layout::Area;
+use normalize_tables::rows::ends_at;
 use normalize_tables::rows::new_step_at;
 use path_lines::marks::sign_of;
 use tables::entry::LinkNo;
@@ -29,7 +30,8 @@ pub fn put_kept_link(
     requires { ⌜ (at ≤ limit) × Rewritable (now text) (now work) (a .b) (a .n) (a .g) (a .m) × (i .0 < a .n .links) ⌝ }
     ensures { λ r. ⌜ Wrote limit (now (out .entry)) at (keptPiece (now (text .entry)) (now (work .entry)) (a .b) (a .g) (i .0)) (now (out .exit)) r ⌝ }
 {
-    if word(work, a.g.ends + 3 * i.0 as usize + 2) != 0 {
+    let ends = ends_at(work, a, i);
+    if ends.gone != 0 {
         return at;
     }
     let l = link_at(text, work, a.b, a.n, i);

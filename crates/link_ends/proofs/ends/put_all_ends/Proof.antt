@@ -17,8 +17,8 @@ loop-holds c = search ending-start
 cast-t10 : tie.Need-cast-t10 Inv-loop μ-loop
 cast-t10 c = search needs
 
-put-ends-requires : tie.Need-put-ends-requires Inv-loop μ-loop
-put-ends-requires c κs = search needs
+settle-ends-requires : tie.Need-settle-ends-requires Inv-loop μ-loop
+settle-ends-requires c κs = search needs
 
 add-removed : tie.Need-add-removed Inv-loop μ-loop
 add-removed c = search needs
@@ -46,7 +46,7 @@ put-all-ends-spec =
     μ-loop
     loop-holds
     cast-t10
-    put-ends-requires
+    settle-ends-requires
     add-removed
     add-i
     loop-less

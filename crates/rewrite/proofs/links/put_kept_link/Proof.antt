@@ -4,20 +4,8 @@ use Rattle.rewrite.proofs.RawLines.{kept-passed, kept-written}
 use Rattle.rewrite.proofs.links.put_kept_link.Statement.{statement}
 use Rattle.rewrite.proofs.links.put_kept_link.Tie as tie
 
-cast-word : tie.Need-cast-word
-cast-word c = search needs
-
-mul-word : tie.Need-mul-word
-mul-word c = search needs
-
-add-word : tie.Need-add-word
-add-word c = search needs
-
-add-word-2 : tie.Need-add-word-2
-add-word-2 c = search needs
-
-word-requires : tie.Need-word-requires
-word-requires c κs = search needs
+ends-at-requires : tie.Need-ends-at-requires
+ends-at-requires c κs = search needs
 
 returns : tie.Need-returns
 returns c = search kept-passed
@@ -37,14 +25,4 @@ returns-2 c = search kept-written
 pub put-kept-link-spec : {M : Type 1} → statement M
 put-kept-link-spec =
     tie.close
-    (tie.spec
-    cast-word
-    mul-word
-    add-word
-    add-word-2
-    word-requires
-    returns
-    link-at-requires
-    put-line-requires
-    same-length
-    returns-2)
+    (tie.spec ends-at-requires returns link-at-requires put-line-requires same-length returns-2)

@@ -1,7 +1,7 @@
--- `link_ends::ends::ends_at` meets its contract, word by word. Assumes nothing.
+-- `normalize_tables::rows::ends_at` meets its contract, word by word. Assumes nothing.
 use borrow.Author.Needs.{needs}
-use Rattle.link_ends.proofs.ends.ends_at.Statement.{statement}
-use Rattle.link_ends.proofs.ends.ends_at.Tie as tie
+use Rattle.normalize_tables.proofs.rows.ends_at.Statement.{statement}
+use Rattle.normalize_tables.proofs.rows.ends_at.Tie as tie
 
 cast-at : tie.Need-cast-at
 cast-at c = search needs
