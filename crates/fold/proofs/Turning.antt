@@ -21,11 +21,10 @@ use Rattle.tables.specs.declared.tables.Counts.{Counts}
 use Rattle.tables.specs.declared.rows.Place.{Place}
 use Rattle.tables.specs.declared.rows.StepWords.{StepWords}
 use Rattle.tables.specs.ByNumber.{segmentNo, stepNo, segmentsOf, bytesIn, StepIs, NamedIs}
-use Rattle.tables.proofs.Numbers.{found-below}
+use Rattle.tables.proofs.Named.{named-number, named-below, unnamed-number}
 use Rattle.normalize_tables.specs.declared.layout.Layout.{Layout}
 use Rattle.normalize_tables.specs.declared.layout.Made.{Made}
 use Rattle.normalize_tables.specs.News.{newAt, namesAt}
-use Rattle.normalize_tables.proofs.Numbered.{found-number, found-nothing}
 use Rattle.normalize_tables.proofs.NewsKept.{step-rows-kept}
 use Rattle.normalize_tables.specs.NewByNumber.{StepRoom}
 use Rattle.fold.specs.declared.turns.Target.{Target}
@@ -41,10 +40,10 @@ use Rattle.fold.proofs.Putting.{put-names, put-made, put-frame, put-ste
 
 module _ {text work : List ℕ} (b : Bases) (n : Counts) {name : Place} {r : Found} (f : NamedIs text work b n name r) where
   pub unit-found : {k : ℕ} → r ≡ At (record { 0 = k }) → UnitIs text work b n name k
-  unit-found e = record { is = found-number f e; below = found-below f e }
+  unit-found e = record { is = named-number f e; below = named-below f e }
 
   pub unit-missing : r ≡ Nothing → KnownIn (segmentsOf text work b n) (bytesIn text name) → ⊥
-  unit-missing e k = let z : _≡_ {A = ℕ} 0 1 = cc (found-nothing f e, k .is) in omega arith
+  unit-missing e k = let z : _≡_ {A = ℕ} 0 1 = cc (unnamed-number f e, k .is) in omega arith
 
 -- the name of a step that is known
 pub step-known : {text work : List ℕ} {b : Bases} (n : Counts) {i : ℕ} {s : StepWords} → KnownStep text work b n i → StepIs text work b i s

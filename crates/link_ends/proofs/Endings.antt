@@ -116,7 +116,7 @@ module _ {text w : List ℕ} {b : Bases} {n : Counts} {g : Layout} (l : LinkWord
         record {
           answer = λ p more k f.
               (let none-so = word-other (segmentsOf text w b n) more (bytesIn text (l .from)) f (rw (segments-length text w b (n .segs)) z) in
-              rw (by-folded p, passes-none text w (b .segs) (n .segs) (s .apart) (bytesIn text (l .from)) p none-so) (unfold bit in refl));
+              rw (by-folded p, passes-none text w b n (s .apart) (bytesIn text (l .from)) p none-so) (unfold bit in refl));
           few = omega arith;
           small = omega arith;
         }
@@ -134,7 +134,7 @@ module _ {text w : List ℕ} {b : Bases} {n : Counts} {g : Layout} (l : LinkWord
       by-mark p more k f =
           let number = word-segment (segmentsOf text w b n) more (bytesIn text (l .from)) f some-word (rw (segments-length text w b (n .segs)) low) in
           by-folded p
-          ∙ passes-named text w (b .segs) (n .segs) (s .apart) (bytesIn text (l .from)) p (from - 1) number (omega arith)
+          ∙ passes-named text w b n (s .apart) (bytesIn text (l .from)) p (from - 1) number (omega arith)
           ∙ rw (em, k .mark (from - 1) (omega arith), bit-set)
 
       pub gone-unmarked : (mark ≡ 1 → ⊥) → GoneIs text w b n g l from 0

@@ -26,7 +26,7 @@ use Rattle.tables.specs.declared.rows.Place.{Place}
 use Rattle.tables.specs.declared.rows.SegmentWords.{SegmentWords}
 use Rattle.tables.specs.ByNumber.{segmentNo, segmentsOf, bytesIn, SegmentIs, NamedIs}
 use Rattle.tables.proofs.ByNumber.{segments-length, segments-nth}
-use Rattle.tables.proofs.Numbers.{found-at, found-nothing}
+use Rattle.tables.proofs.Named.{named-number, named-below}
 use Rattle.normalize_tables.specs.declared.layout.Layout.{Layout}
 use Rattle.normalize_tables.specs.News.{newAt, newsAt, namesAt, placeOf}
 use Rattle.normalize_tables.proofs.Nodes.{names-length, names-more}
@@ -112,17 +112,12 @@ module _ {text work : List ℕ} {b : Bases} {n : Counts} {g : Layout} {first q :
   -- a segment of the text was found
   pub seeking-segment : {r : Found} {k : ℕ} → NamedIs text work b n name r → r ≡ found.At (record { 0 = k }) → NodeIs text work b n g first q name (At k)
   seeking-segment {r} {k} f e =
-      let number = found-at (segmentNumber (segmentsOf text work b n) (bytesIn text name)) k (sym (f .answer) ∙ e) in
-      let low : k < n .segs = rw e at (f .below) in
+      let number = named-number f e in
+      let low = named-below f e in
       record {
         answer = rw (place-still text work b n g first 0 q (bytesIn text name) k (omega arith) (rw (names-none text work b n g first, place-number) number));
         below = omega arith;
       }
-
--- no segment of the text was found
-pub seeking-none : {text work : List ℕ} (b : Bases) (n : Counts) {name : Place} {r : Found} → NamedIs text work b n name r → r ≡ found.Nothing
-    → segmentNumber (segmentsOf text work b n) (bytesIn text name) ≡ none
-seeking-none {text} {work} b n {name} f e = found-nothing (segmentNumber (segmentsOf text work b n) (bytesIn text name)) (sym (f .answer) ∙ e)
 
 -- ---- a node's ID
 

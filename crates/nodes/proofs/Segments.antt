@@ -3,11 +3,10 @@ use Prim.Native.Nat.{ℕ, _+_, _≤_}
 use native.Mathlib.Numerals.{add-one}
 use native.Mathlib.Omega.{arith}
 use mathlib.Core.List.{List}
-use mathlib.Core.Option.{some}
-use mathlib.Core.Path.{_≡_, sym, ap, _∙_}
+use mathlib.Core.Path.{_≡_}
 use lib.ListN.{length, length-take, length-drop}
-use Rattle.gfa_spec.specs.Bytes.{part, same, star, nth}
-use Rattle.gfa_spec.specs.Records.{segmentNumber, sequenceOf, sequenceOrEmpty}
+use Rattle.gfa_spec.specs.Bytes.{part, same, star}
+use Rattle.gfa_spec.specs.Records.{sequenceOrEmpty}
 use Rattle.gfa_spec.specs.Sequences.{sequenceLen}
 use Rattle.gfa_spec.proofs.Tests.{by-test}
 use Rattle.tables.specs.declared.segments.Found.{Found}
@@ -16,9 +15,8 @@ use Rattle.tables.specs.declared.tables.Bases.{Bases}
 use Rattle.tables.specs.declared.tables.Counts.{Counts}
 use Rattle.tables.specs.declared.rows.Place.{Place}
 use Rattle.tables.specs.declared.rows.SegmentWords.{SegmentWords}
-use Rattle.tables.specs.ByNumber.{segmentNo, segmentsOf, bytesIn, SegmentIs, NamedIs}
-use Rattle.tables.proofs.Numbers.{found-at, found-nothing, found-below, none-sequence, some-sequence}
-use Rattle.tables.proofs.ByNumber.{segments-nth}
+use Rattle.tables.specs.ByNumber.{segmentsOf, bytesIn, SegmentIs, NamedIs}
+use Rattle.tables.proofs.Named.{named-number, named-below, named-sequence, unnamed-number, unnamed-sequence}
 use Rattle.nodes.specs.Table.{KnownIs}
 use Rattle.work.specs.Rows.{wordOf}
 
@@ -36,10 +34,10 @@ module _ {text work : List ℕ} {b : Bases} {n : Counts} {name : Place} {r : Fou
   unfolding wordOf sequenceOrEmpty sequenceLen same star
   known-none e =
       let ss = segmentsOf text work b n in
-      let z = found-nothing (segmentNumber ss (bytesIn text name)) (sym (h .answer) ∙ e) in
+      let z = unnamed-number h e in
       record {
         number = rw z;
-        long = rw (none-sequence ss (bytesIn text name) z, sequenceOrEmpty);
+        long = rw (unnamed-sequence h e, sequenceOrEmpty);
         small = omega arith;
         short = omega arith;
       }
@@ -50,13 +48,11 @@ module _ {text work : List ℕ} {b : Bases} {n : Counts} {name : Place} {r : Fou
   known-some {k} {long} {w} e s l =
       let ss = segmentsOf text work b n in
       let seq = bytesIn text (w .sequence) in
-      let z = found-at (segmentNumber ss (bytesIn text name)) k (sym (h .answer) ∙ e) in
-      let d = segmentNo text work b 0 in
-      let row : nth k ss d ≡ segmentNo text work b k = segments-nth text work b (n .segs) k d (found-below h e) in
-      let q : sequenceOf ss (bytesIn text name) ≡ some seq = some-sequence ss (bytesIn text name) k d z ∙ ap (λ s. some (s .sequence)) (row ∙ s .segment) in
+      let z = named-number h e in
+      let q = named-sequence h e s in
       record {
         number = rw z (add-one k);
         long = rw q l;
-        small = omega (arith, found-below h e);
+        small = omega (arith, named-below h e);
         short = rw l (omega (arith, length-less seq, part-short (w .sequence .start) (w .sequence .size) text));
       }

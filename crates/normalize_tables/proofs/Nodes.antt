@@ -13,7 +13,7 @@ use Rattle.normalize_spec.specs.Folding.{taken}
 use Rattle.work.proofs.Rows.{rows-length, rows-snoc}
 use Rattle.tables.specs.declared.tables.Bases.{Bases}
 use Rattle.tables.specs.declared.tables.Counts.{Counts}
-use Rattle.tables.specs.Segments.{segmentsAt}
+use Rattle.tables.proofs.ByNumber.{segments-length}
 use Rattle.normalize_tables.specs.declared.layout.Layout.{Layout}
 use Rattle.normalize_tables.specs.News.{newAt, newsAt, namesAt}
 
@@ -41,8 +41,8 @@ same-place (x ∷ xs) (suc j) (suc k) d l m = rw eqb·suc-suc (same-place xs j k
 module _ (text w : List ℕ) (b : Bases) (n : Counts) (g : Layout) (first : ℕ) where
   -- there are as many as segments and new segments
   pub names-length : (q : ℕ) → length (namesAt text w b n g first q) ≡ n .segs + q
-  unfolding namesAt taken newsAt segmentsAt
-  names-length q = rw (length-append, length-map, length-map, rows-length, rows-length)
+  unfolding namesAt taken newsAt
+  names-length q = rw (length-append, length-map, length-map, segments-length, rows-length)
 
   -- one new segment more
   pub news-more : (q : ℕ) → newsAt text w b g first (suc q) ≡ newsAt text w b g first q ++ (newAt text b g first w q ∷ [])

@@ -1,5 +1,5 @@
 -- Segments by their numbers, and what the mark of a number says of a name. Assumes nothing.
-use Prim.Native.Nat.{ℕ, zero, suc, _+_, _*_, _<_}
+use Prim.Native.Nat.{ℕ, zero, suc, _<_}
 use native.Mathlib.Omega.{arith}
 use mathlib.Core.Bool.{Bool, true, false, not, _&&_}
 use mathlib.Core.List.{List, [], _∷_, map}
@@ -8,17 +8,17 @@ use mathlib.Core.Path.{_≡_, refl, sym, _∙_}
 use lib.Dec.{eqb, eqb·zero-suc, eqb·suc-zero, eqb·suc-suc}
 use lib.ListN.{length, length-map}
 use borrow.Author.Tests.{eq-eqb, not-true}
-use Rattle.gfa_spec.specs.Bytes.{part, same, any, nth, distinct}
+use Rattle.gfa_spec.specs.Bytes.{same, any, nth, distinct}
 use Rattle.gfa_spec.specs.Reading.{Segment}
 use Rattle.gfa_spec.specs.Records.{segmentNumber}
 use Rattle.gfa_spec.proofs.Tests.{by-test, and-left, and-right, same-equal, same-sym}
 use Rattle.gfa_spec.proofs.Each.{nth-map}
 use Rattle.normalize_spec.proofs.Marks.{named}
-use Rattle.work.proofs.Rows.{rows-nth, rows-length}
-use Rattle.tables.specs.declared.segments.Found.{Found}
-use Rattle.tables.specs.declared.segments.Found.the-variants.{At, Nothing}
-use Rattle.tables.specs.Segments.{segmentAt, segmentsAt, idsOf, FoundIs}
-use Rattle.tables.proofs.Numbers.{found-at, found-nothing as nothing-found}
+use Rattle.tables.specs.declared.tables.Bases.{Bases}
+use Rattle.tables.specs.declared.tables.Counts.{Counts}
+use Rattle.tables.specs.Segments.{idsOf}
+use Rattle.tables.specs.ByNumber.{segmentNo, segmentsOf}
+use Rattle.tables.proofs.ByNumber.{segments-nth, segments-length}
 use Rattle.normalize_tables.proofs.Nodes.{absent-at}
 
 -- ---- names and numbers
@@ -55,32 +55,24 @@ number-says (s ∷ ss) name (suc i) d u l =
     (λ e. rw (e, ← same-equal (s .id) name e, other-segment (s .id) ss i d alone (omega arith)) (unfold Option·elim in sym (eqb·suc-zero i)))
     (λ e. rw (e, next-number (segmentNumber ss name) i) (number-says ss name i d (and-right (not (any (same (s .id)) ids)) (distinct ids) u) (omega arith)))
 
--- ---- what a search found
+-- ---- the rows of segments
 
-module _ {text work : List ℕ} {base count name size : ℕ} {r : Found} (f : FoundIs text work base count name size r) where
-  -- the number of the name
-  pub found-number : {k : ℕ} → r ≡ At (record { 0 = k }) → segmentNumber (segmentsAt text work base count) (part name size text) ≡ some k
-  found-number {k} e = found-at (segmentNumber (segmentsAt text work base count) (part name size text)) k (sym (f .answer) ∙ e)
-
-  pub found-nothing : r ≡ Nothing → segmentNumber (segmentsAt text work base count) (part name size text) ≡ none
-  found-nothing e = nothing-found (segmentNumber (segmentsAt text work base count) (part name size text)) (sym (f .answer) ∙ e)
-
-module _ (text work : List ℕ) (base count : ℕ) (apart : distinct (idsOf (segmentsAt text work base count)) ≡ true) (name : List ℕ) where
-  -- the segment of row i has a name exactly if the name's number is i
-  pub row-named : (i : ℕ) → i < count → same (segmentAt text work (base + 6 * i) .id) name ≡ Option·elim (segmentNumber (segmentsAt text work base count) name) false (eqb i)
-  unfolding segmentsAt idsOf
+module _ (text work : List ℕ) (b : Bases) (n : Counts) (apart : distinct (idsOf (segmentsOf text work b n)) ≡ true) (name : List ℕ) where
+  -- segment i has a name exactly if the name's number is i
+  pub row-named : (i : ℕ) → i < n .segs → same (segmentNo text work b i .id) name ≡ Option·elim (segmentNumber (segmentsOf text work b n) name) false (eqb i)
+  unfolding idsOf
   row-named i h =
-      rw (rows-nth (segmentAt text) 6 work base count i (segmentAt text work 0) h) at
-      (number-says (segmentsAt text work base count) name i (segmentAt text work 0) apart (rw rows-length h))
+      let d = segmentNo text work b 0 in
+      rw (segments-nth text work b (n .segs) i d h) at (number-says (segmentsOf text work b n) name i d apart (rw segments-length h))
 
   -- some segment that passes has the name exactly if the segment of its number passes
-  pub passes-named : (p : Segment → Bool) (k : ℕ) → segmentNumber (segmentsAt text work base count) name ≡ some k → k < count
-      → any (λ s. p s && same (s .id) name) (segmentsAt text work base count) ≡ p (segmentAt text work (base + 6 * k))
-  unfolding idsOf segmentsAt Option·elim
-  passes-named p k e h =
-      named p (segmentAt text work 0) (segmentsAt text work base count) name apart
-      ∙ rw (e, rows-nth (segmentAt text) 6 work base count k (segmentAt text work 0) h)
-
-  pub passes-none : (p : Segment → Bool) → segmentNumber (segmentsAt text work base count) name ≡ none → any (λ s. p s && same (s .id) name) (segmentsAt text work base count) ≡ false
+  pub passes-named : (p : Segment → Bool) (k : ℕ) → segmentNumber (segmentsOf text work b n) name ≡ some k → k < n .segs
+      → any (λ s. p s && same (s .id) name) (segmentsOf text work b n) ≡ p (segmentNo text work b k)
   unfolding idsOf Option·elim
-  passes-none p e = named p (segmentAt text work 0) (segmentsAt text work base count) name apart ∙ rw e
+  passes-named p k e h =
+      let d = segmentNo text work b 0 in
+      named p d (segmentsOf text work b n) name apart ∙ rw (e, segments-nth text work b (n .segs) k d h)
+
+  pub passes-none : (p : Segment → Bool) → segmentNumber (segmentsOf text work b n) name ≡ none → any (λ s. p s && same (s .id) name) (segmentsOf text work b n) ≡ false
+  unfolding idsOf Option·elim
+  passes-none p e = named p (segmentNo text work b 0) (segmentsOf text work b n) name apart ∙ rw e

@@ -16,12 +16,10 @@ use Rattle.gfa_spec.specs.Records.{isSelfLink, selfLinks, links, paths}
 use Rattle.gfa_spec.specs.Runs.{bit, pairs, sameNode, sameStep, overPaths, sameNodePairs, sameStepPairs}
 use Rattle.gfa_spec.proofs.Counting.{count-one, count-append}
 use Rattle.gfa_spec.proofs.Runs.{pairs-none, pairs-cons}
-use Rattle.work.specs.Rows.{rowsAt}
-use Rattle.tables.specs.Links.{linksAt}
 use Rattle.tables.specs.Entries.{entriesAt}
 use Rattle.tables.specs.Tables.{Tables, Readable}
 use Rattle.tables.specs.ByNumber.{pathNo, stepNo, linksTo, pathsFrom, stepsFrom, stepOf, linkOf, StepIs, LinkIs, PathIs}
-use Rattle.tables.proofs.ByNumber.{links-more, paths-all, paths-next, paths-none, steps-next, steps-length}
+use Rattle.tables.proofs.ByNumber.{links-more, paths-all, paths-next, paths-none, steps-next, steps-length, links-zero}
 use Rattle.runs.specs.Counts.{PairsIs, overRows, PairTotals}
 
 -- ---- the pairs of a step list
@@ -117,8 +115,8 @@ pub record Tallied (text work : List ℕ) (b : Bases) (i x : ℕ) : Type 0 where
 
 module _ {text work : List ℕ} {b : Bases} where
   pub tallied-start : Tallied text work b 0 0
-  unfolding linksAt rowsAt count
-  tallied-start = record { few = omega arith; so-far = refl }
+  unfolding count
+  tallied-start = record { few = omega arith; so-far = rw links-zero refl }
 
   pub tallied-more : {i x y : ℕ} {l : LinkWords} {r : Bool} → Tallied text work b i x → LinkIs text work b i l → r ≡ isSelfLink (linkOf text l) → (y ≡ bit r) × (y ≤ 1)
       → Tallied text work b (i + 1) (x + y)
@@ -149,6 +147,6 @@ module _ {text before work : List ℕ} {b : Bases} {n : Counts} (t : Tables text
   pairs-of-entries h = (h .nodes ∙ over-entries (pairs sameNode), h .steps ∙ over-entries (pairs sameStep))
 
   -- links with equal ends
-  pub self-links-of-entries : {r : ℕ} → r ≡ count isSelfLink (linksAt text work (b .links) (n .links)) → r ≡ selfLinks (entriesAt text work b (n .lines))
+  pub self-links-of-entries : {r : ℕ} → r ≡ count isSelfLink (linksTo text work b (n .links)) → r ≡ selfLinks (entriesAt text work b (n .lines))
   unfolding selfLinks
   self-links-of-entries e = e ∙ rw (t .of-links)

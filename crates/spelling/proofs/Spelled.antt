@@ -21,7 +21,7 @@ use Rattle.spelling.specs.declared.spelling.Spelt.the-variants.{Bytes, B
 use Rattle.spelling.specs.declared.spelling.Steps.the-variants as steps
 use Rattle.gfa_spec.specs.Bytes.{Part, same, star}
 use Rattle.gfa_spec.specs.Reading.{Step, Segment, Path, Entry}
-use Rattle.gfa_spec.specs.Records.{segments, paths, sequenceOf, segmentNumber}
+use Rattle.gfa_spec.specs.Records.{segments, paths, sequenceOf}
 use Rattle.gfa_spec.specs.Sequences.{complement, oriented}
 use Rattle.gfa_spec.specs.Spelling.{Spelt, bad, spelt, behind, spellStep, spell}
 use Rattle.gfa_spec.specs.Calls.{onName}
@@ -30,9 +30,9 @@ use Rattle.gfa_spec.proofs.Parts.{length-part}
 use Rattle.scan.specs.Places.{partAt}
 use Rattle.writers.specs.Writers.{Wrote}
 use Rattle.writers.proofs.Writing.{_▷_, nothing}
-use Rattle.tables.specs.ByNumber.{segmentNo, pathNo, stepNo, segmentsOf, pathsTo, pathsFrom, stepsFrom, bytesIn, Inside, SegmentIs, PathIs, StepIs, NamedIs}
-use Rattle.tables.proofs.Numbers.{none-sequence, some-sequence, found-at, found-nothing, found-below}
-use Rattle.tables.proofs.ByNumber.{segments-nth, paths-all, paths-next, paths-none}
+use Rattle.tables.specs.ByNumber.{pathNo, stepNo, segmentsOf, pathsTo, pathsFrom, stepsFrom, bytesIn, Inside, SegmentIs, PathIs, StepIs, NamedIs}
+use Rattle.tables.proofs.Named.{named-sequence, unnamed-sequence}
+use Rattle.tables.proofs.ByNumber.{paths-all, paths-next, paths-none}
 use Rattle.reader.specs.Inputs.{stated}
 use Rattle.spelling.specs.Spelled.{SequenceIs, SpeltInto, BadStepAt, SpeltIs, badAnswer, BadStepIs}
 
@@ -41,26 +41,11 @@ use Rattle.spelling.specs.Spelled.{SequenceIs, SpeltInto, BadStepAt, Spe
 module _ {text work : List ℕ} {b : Bases} {n : Counts} {name : Place} {r : Found} (h : NamedIs text work b n name r) where
   -- no segment has the name
   pub sequence-unknown : r ≡ found.Nothing → SequenceIs text work b n name sequence.Unknown
-  sequence-unknown e =
-      let table = segmentsOf text work b n in
-      let gone = found-nothing (segmentNumber table (bytesIn text name)) (sym (h .answer) ∙ e) in
-      record { says = record { missing = none-sequence table (bytesIn text name) gone } }
+  sequence-unknown e = record { says = record { missing = unnamed-sequence h e } }
 
   -- its row tells the sequence
   pub sequence-found : {k : ℕ} {s : SegmentWords} → r ≡ found.At (record { 0 = k }) → SegmentIs text work b k s → SequenceIs text work b n name (sequence.At (s .sequence))
-  sequence-found {k} e q =
-      let table = segmentsOf text work b n in
-      let there = found-at (segmentNumber table (bytesIn text name)) k (sym (h .answer) ∙ e) in
-      let d = segmentNo text work b 0 in
-      record {
-        says =
-            record {
-              found =
-                  some-sequence table (bytesIn text name) k d there
-                  ∙ rw (segments-nth text work b (n .segs) k d (found-below h e), q .segment);
-              inside = q .sequence;
-            };
-      }
+  sequence-found e q = record { says = record { found = named-sequence h e q; inside = q .sequence } }
 
 -- ---- pieces in front of what is spelled
 

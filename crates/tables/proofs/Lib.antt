@@ -3,3 +3,4 @@ pub mod TableRows
 pub mod Numbers
 pub mod Standing
 pub mod ByNumber
+pub mod Named

@@ -166,7 +166,3 @@ found-at (some j) k e = ap some (ap numberIn e)
 pub found-nothing : (o : Option ℕ) → foundAs o ≡ Nothing → o ≡ none
 found-nothing none e = refl
 found-nothing (some j) e = let z : _≡_ {A = ℕ} 0 1 = cc in absurd (omega arith)
-
--- a segment that was found is one of the table
-pub found-below : {text work : List ℕ} {base count name size : ℕ} {r : Found} → FoundIs text work base count name size r → {k : ℕ} → r ≡ At (record { 0 = k }) → k < count
-found-below h e = rw e at (h .below)

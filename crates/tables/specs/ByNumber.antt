@@ -13,10 +13,11 @@ use Rattle.tables.specs.declared.rows.LinkWords.{LinkWords}
 use Rattle.tables.specs.declared.rows.PathWords.{PathWords}
 use Rattle.tables.specs.declared.rows.StepWords.{StepWords}
 use Rattle.gfa_spec.specs.Bytes.{part}
+use Rattle.gfa_spec.specs.Records.{segmentNumber}
 use Rattle.gfa_spec.specs.Reading.{Entry, Segment, Link, Path, Step, fields, isOrientation}
 use Rattle.scan.specs.Places.{partAt}
 use Rattle.tables.specs.declared.segments.Found.{Found}
-use Rattle.tables.specs.Segments.{segmentAt, segmentsAt, FoundIs}
+use Rattle.tables.specs.Segments.{segmentAt, segmentsAt, foundAs, FoundBelow}
 use Rattle.tables.specs.Links.{linkAt, linksAt}
 use Rattle.tables.specs.Paths.{kindIn, kindWord, pathFields, pathAt, pathsAt}
 use Rattle.tables.specs.Steps.{stepAt, stepsAt}
@@ -148,6 +149,7 @@ pub record StepIs (text work : List ℕ) (b : Bases) (i : ℕ) (r : StepWords) :
   pub name : Inside text (r .name)
   pub mark : isOrientation (r .mark) ≡ true
 
--- What a search for the segment of a name finds.
-abbrev pub NamedIs : List ℕ → List ℕ → Bases → Counts → Place → Found → Type 0
-NamedIs text work b n name r = FoundIs text work (b .segs) (n .segs) (name .start) (name .size) r
+-- What a search for the segment of a name finds: the number of the first so named.
+pub record NamedIs (text work : List ℕ) (b : Bases) (n : Counts) (name : Place) (r : Found) : Type 0 where
+  pub answer : r ≡ foundAs (segmentNumber (segmentsOf text work b n) (bytesIn text name))
+  pub below : FoundBelow (n .segs) r

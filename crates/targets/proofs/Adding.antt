@@ -27,9 +27,9 @@ use Rattle.tables.proofs.ByNumber.{TablesKept, readable-stands, segment-stands}
 use Rattle.normalize_tables.specs.declared.layout.Layout.{Layout}
 use Rattle.normalize_tables.specs.Layout.{Source}
 use Rattle.normalize_tables.specs.Marks.{Marked}
-use Rattle.tables.proofs.Numbers.{found-below}
+use Rattle.tables.proofs.Named.{named-number, named-below, unnamed-number}
 use Rattle.work.proofs.Filling.{only-set}
-use Rattle.normalize_tables.proofs.Numbered.{row-named, found-number, found-nothing}
+use Rattle.normalize_tables.proofs.Numbered.{row-named}
 use Rattle.targets.specs.Marking.{Markable, Adds, NameMarked}
 
 -- ---- what is kept
@@ -109,21 +109,21 @@ module _ {text w : List ℕ} {b : Bases} {n : Counts} {marks : ℕ} {name : Plac
       record {
         adds =
             adds-if m only-none refl
-            (λ p q i h. q .mark i h ∙ rw (row-named text w (b .segs) (n .segs) (m .apart) (bytesIn text name) i h, found-nothing f e, or-false));
+            (λ p q i h. q .mark i h ∙ rw (row-named text w b n (m .apart) (bytesIn text name) i h, unnamed-number f e, or-false));
       }
 
   module _ {k : ℕ} (e : r ≡ At (record { 0 = k })) where
     named-only : Only (span marks (marks + n .segs) ∷ []) w (set w (marks + k) 1)
-    named-only = let l = found-below f e in only-set w (marks + k) 1 (omega arith) (omega arith)
+    named-only = let l = named-below f e in only-set w (marks + k) 1 (omega arith) (omega arith)
 
     -- the segment of the number that was found is marked
     named-word : (p : Segment → Bool) → Marked p text w b n marks → (i : ℕ) → i < n .segs
         → getD (set w (marks + k) 1) (marks + i) 0 ≡ bit (p (segmentNo text w b i) || same (segmentNo text w b i .id) (bytesIn text name))
     unfolding Option·elim
     named-word p q i h =
-        rw (row-named text w (b .segs) (n .segs) (m .apart) (bytesIn text name) i h, found-number f e)
+        rw (row-named text w b n (m .apart) (bytesIn text name) i h, named-number f e)
         (by-test (eqb i k)
-        (λ t. let z = eqb-true i k t in rw (t, or-true, z) (unfold bit in getD-set-same w (marks + k) 1 0 (omega (arith, m .room, found-below f e))))
+        (λ t. let z = eqb-true i k t in rw (t, or-true, z) (unfold bit in getD-set-same w (marks + k) 1 0 (omega (arith, m .room, named-below f e))))
         (λ t. rw (t, or-false) (getD-set-other w (marks + k) (marks + i) 1 0 (λ z. eqb-false i k t (omega arith)) ∙ q .mark i h)))
 
     pub named-marked : NameMarked text w (set w (marks + k) 1) b n marks name

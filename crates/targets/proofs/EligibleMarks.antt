@@ -15,15 +15,14 @@ use Rattle.gfa_spec.proofs.Counting.{bit-set}
 use Rattle.normalize_spec.specs.Folding.{selfLinked, within, isUnit}
 use Rattle.normalize_spec.proofs.Marks.{linked-snoc}
 use Rattle.scan.specs.Places.{SameIs}
-use Rattle.work.specs.Rows.{rowsAt, span, Cleared}
+use Rattle.work.specs.Rows.{span, Cleared}
 use Rattle.work.proofs.Rows.{only-then}
 use Rattle.tables.specs.declared.tables.Bases.{Bases}
 use Rattle.tables.specs.declared.tables.Counts.{Counts}
-use Rattle.tables.specs.Links.{linksAt}
 use Rattle.tables.specs.declared.rows.SegmentWords.{SegmentWords}
 use Rattle.tables.specs.declared.rows.LinkWords.{LinkWords}
 use Rattle.tables.specs.ByNumber.{segmentNo, linkNo, linksTo, bytesIn, SegmentIs, LinkIs}
-use Rattle.tables.proofs.ByNumber.{links-more, TablesKept, segment-stands, link-stands}
+use Rattle.tables.proofs.ByNumber.{links-more, TablesKept, segment-stands, link-stands, links-zero}
 use Rattle.normalize_tables.specs.declared.layout.Layout.{Layout}
 use Rattle.normalize_tables.specs.Layout.{Source}
 use Rattle.targets.specs.Marking.{Markable, Adds, NameMarked, LinkMarked, UnitsKept, MarkedIs}
@@ -58,8 +57,8 @@ pub record Linking (text before work : List ℕ) (b : Bases) (n : Counts) (marks
 
 module _ {text before : List ℕ} {b : Bases} {n : Counts} {marks : ℕ} where
   pub linking-start : Markable text before b n marks → Linking text before before b n marks 0
-  unfolding linksAt rowsAt selfLinked any
-  linking-start m = record { markable = m; high = omega arith; adds = adds-none m }
+  unfolding selfLinked any
+  linking-start m = record { markable = m; high = omega arith; adds = rw links-zero (adds-none m) }
 
   module _ {work : List ℕ} {i : ℕ} (s : Linking text before work b n marks i) where
     pub linking-more : {work' : List ℕ} → i < n .links → LinkMarked text work work' b n marks i → Linking text before work' b n marks (i + 1)

@@ -16,17 +16,15 @@ use Rattle.gfa_spec.proofs.Tests.{same-sym, any-append}
 use Rattle.gfa_spec.proofs.Counting.{bit-set, count-one, count-append}
 use Rattle.scan.specs.Places.{partAt}
 use Rattle.normalize_spec.specs.Folding.{repeatsOn}
-use Rattle.work.specs.Rows.{rowsAt, span, Only, Cleared}
+use Rattle.work.specs.Rows.{span, Only, Cleared}
 use Rattle.work.proofs.Rows.{only-then}
 use Rattle.tables.specs.declared.tables.Bases.{Bases}
 use Rattle.tables.specs.declared.tables.Counts.{Counts}
-use Rattle.tables.specs.Segments.{segmentsAt}
-use Rattle.tables.specs.Paths.{pathsAt}
 use Rattle.tables.specs.declared.rows.PathWords.{PathWords}
 use Rattle.tables.specs.declared.rows.StepWords.{StepWords}
 use Rattle.tables.specs.ByNumber.{segmentNo, segmentsTo, pathsTo, stepNo, stepsFrom, bytesIn, PathIs, StepIs}
 use Rattle.runs.specs.Runs.{RunFrom}
-use Rattle.tables.proofs.ByNumber.{paths-more, steps-none, segment-stands, path-stands, step-stands, steps-stand}
+use Rattle.tables.proofs.ByNumber.{paths-more, steps-none, segment-stands, path-stands, step-stands, steps-stand, paths-zero, segments-zero, segments-more}
 use Rattle.normalize_tables.specs.declared.layout.Layout.{Layout}
 use Rattle.normalize_tables.specs.Layout.{Source}
 use Rattle.normalize_tables.specs.Marks.{Marked}
@@ -95,8 +93,8 @@ pub record Visiting (text before work : List ℕ) (b : Bases) (n : Counts) (mark
 
 module _ {text before : List ℕ} {b : Bases} {n : Counts} {marks : ℕ} where
   pub visiting-start : Markable text before b n marks → Visiting text before before b n marks 0
-  unfolding pathsAt rowsAt any
-  visiting-start m = record { markable = m; high = omega arith; adds = adds-none m }
+  unfolding any
+  visiting-start m = record { markable = m; high = omega arith; adds = rw paths-zero (adds-none m) }
 
   module _ {work : List ℕ} {p : ℕ} (s : Visiting text before work b n marks p) where
     pub visiting-more : {work' : List ℕ} {r : PathWords} → p < n .paths → PathIs text work b n p r → PathMarked text work work' b n marks (r .first) (r .end)
@@ -148,10 +146,10 @@ module _ {before : List ℕ} {g : Layout} {count : ℕ} where
 
 -- marks are counted
 sum-count : (text w : List ℕ) (b : Bases) (f : ℕ → ℕ) (t : Segment → Bool) (n : ℕ) → ((i : ℕ) → i < n → f i ≡ bit (t (segmentNo text w b i))) → sumTo f n ≡ countOf t (segmentsTo text w b n)
-unfolding sumTo segmentsAt rowsAt
-sum-count text w b f t zero h = unfold countOf in refl
+unfolding sumTo
+sum-count text w b f t zero h = rw segments-zero (unfold countOf in refl)
 sum-count text w b f t (suc n) h =
-    rw (count-append t (segmentsTo text w b n) (segmentNo text w b n ∷ []), sum-count text w b f t n (λ i l. h i (omega arith)), h n (omega arith), count-one)
+    rw (← add-one n, segments-more text w b n, count-append t (segmentsTo text w b n) (segmentNo text w b n ∷ []), sum-count text w b f t n (λ i l. h i (omega arith)), h n (omega arith), count-one)
 
 -- ---- the folded segments
 

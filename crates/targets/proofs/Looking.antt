@@ -26,8 +26,8 @@ use Rattle.tables.proofs.ByNumber.{paths-all, paths-next, paths-none, steps-non
 use Rattle.normalize_tables.specs.declared.layout.Layout.{Layout}
 use Rattle.normalize_tables.specs.Marks.{Marked}
 use Rattle.normalize_tables.proofs.Lists.{any-alike, any-shared, any-swap}
-use Rattle.tables.proofs.Numbers.{found-below}
-use Rattle.normalize_tables.proofs.Numbered.{found-number, found-nothing, passes-named, passes-none}
+use Rattle.tables.proofs.Named.{named-number, named-below, unnamed-number}
+use Rattle.normalize_tables.proofs.Numbered.{passes-named, passes-none}
 use Rattle.targets.specs.Marking.{Markable, isRunOn, OnMarked, AnyIs}
 
 -- ---- runs on marked segments
@@ -42,18 +42,18 @@ module _ {text w : List ℕ} {b : Bases} {n : Counts} {marks i times : ℕ} wher
     unfolding partAt
     marked-unknown e =
         record {
-          answer = λ p z. rw (le-leb 2 times long, q .step, passes-none text w (b .segs) (n .segs) (m .apart) (bytesIn text (s .name)) p (found-nothing f e));
+          answer = λ p z. rw (le-leb 2 times long, q .step, passes-none text w b n (m .apart) (bytesIn text (s .name)) p (unnamed-number f e));
         }
 
     pub marked-known : {k mark : ℕ} → r ≡ At (record { 0 = k }) → mark ≡ getD w (marks + k) 0 → OnMarked text w b n marks i times (eqb mark 1)
     unfolding partAt
     marked-known {k} {mark} e em =
-        let l = found-below f e in
+        let l = named-below f e in
         record {
           answer = λ p z. rw (
             le-leb 2 times long,
             q .step,
-            passes-named text w (b .segs) (n .segs) (m .apart) (bytesIn text (s .name)) p k (found-number f e) l,
+            passes-named text w b n (m .apart) (bytesIn text (s .name)) p k (named-number f e) l,
             em,
             z .mark k l,
             bit-set,

@@ -1,6 +1,7 @@
 -- `new_ids::ids::find_node` meets its contract: the segments of the text first.
 use borrow.Author.Needs.{needs}
-use Rattle.new_ids.proofs.Finding.{seeking-segment, seeking-none}
+use Rattle.tables.proofs.Named.{unnamed-number}
+use Rattle.new_ids.proofs.Finding.{seeking-segment}
 use Rattle.new_ids.proofs.ids.find_node.Statement.{statement}
 use Rattle.new_ids.proofs.ids.find_node.Tie as tie
 
@@ -14,7 +15,7 @@ enum-told : tie.Need-enum-told
 enum-told c = search needs
 
 find-new-requires : tie.Need-find-new-requires
-find-new-requires c κs = (search needs, search seeking-none)
+find-new-requires c κs = (search needs, search unnamed-number)
 
 returns : tie.Need-returns
 returns c = search needs

@@ -1,6 +1,6 @@
 -- `nodes::segment::segment_of` meets its contract: the segment that is found has that number and that sequence. Assumes nothing.
 use borrow.Author.Needs.{needs}
-use Rattle.tables.proofs.Numbers.{found-below}
+use Rattle.tables.proofs.Named.{named-below}
 use Rattle.nodes.proofs.Segments.{known-none, known-some}
 use Rattle.nodes.proofs.segment.segment_of.Statement.{statement}
 use Rattle.nodes.proofs.segment.segment_of.Tie as tie
@@ -18,7 +18,7 @@ returns : tie.Need-returns
 returns c = search known-none
 
 segment-at-requires : tie.Need-segment-at-requires
-segment-at-requires c κs = (search needs, found-below (c .before .before .before .segment-named .ensures) (c .before .found .given .1))
+segment-at-requires c κs = (search needs, search named-below)
 
 cast-t10 : tie.Need-cast-t10
 cast-t10 c = search needs

@@ -3,7 +3,7 @@ use borrow.Author.Needs.{needs}
 use Rattle.spelling.proofs.Spelled.{sequence-unknown, sequence-found}
 use Rattle.spelling.proofs.spelling.sequence_of.Statement.{statement}
 use Rattle.spelling.proofs.spelling.sequence_of.Tie as tie
-use Rattle.tables.proofs.Numbers.{found-below}
+use Rattle.tables.proofs.Named.{named-below}
 
 segment-named-requires : tie.Need-segment-named-requires
 segment-named-requires c κs = search needs
@@ -18,7 +18,7 @@ returns : tie.Need-returns
 returns c = sequence-unknown (c .before .before .segment-named .ensures) (c .enum-told .given .1)
 
 segment-at-requires : tie.Need-segment-at-requires
-segment-at-requires c κs = (c .before .before .before .before .before .before .pre .0, found-below (c .before .before .before .segment-named .ensures) (c .before .k .given .1))
+segment-at-requires c κs = (search needs, search named-below)
 
 returns-2 : tie.Need-returns-2
 returns-2 c = sequence-found (c .before .before .before .before .before .segment-named .ensures) (c .before .before .before .k .given .1) (c .before .segment-at .ensures)

@@ -1,7 +1,7 @@
 -- `targets::folded::on_marked` meets its contract: the run is short, on no segment, or on the one whose mark is read. Assumes nothing.
 use native.Mathlib.Omega.{arith}
 use borrow.Author.Needs.{needs}
-use Rattle.tables.proofs.Numbers.{found-below}
+use Rattle.tables.proofs.Named.{named-below}
 use Rattle.targets.proofs.Looking.{marked-short, marked-unknown, marked-known}
 use Rattle.targets.proofs.folded.on_marked.Statement.{statement}
 use Rattle.targets.proofs.folded.on_marked.Tie as tie
@@ -31,7 +31,7 @@ add-word : tie.Need-add-word
 add-word c = search needs
 
 word-requires : tie.Need-word-requires
-word-requires c κs = omega (arith, found-below (c .before .before .before .before .segment-named .ensures) (c .before .before .found .given .1))
+word-requires c κs = omega (arith, named-below (c .before .before .before .before .segment-named .ensures) (c .before .before .found .given .1))
 
 returns-3 : tie.Need-returns-3
 returns-3 c = search marked-known

@@ -1,7 +1,7 @@
 -- `targets::marks::mark_name` meets its contract: no segment has the name, or the one that has it is marked. Assumes nothing.
 use native.Mathlib.Omega.{arith}
 use borrow.Author.Needs.{needs}
-use Rattle.tables.proofs.Numbers.{found-below}
+use Rattle.tables.proofs.Named.{named-below}
 use Rattle.targets.proofs.Adding.{named-none, named-marked}
 use Rattle.targets.proofs.marks.mark_name.Statement.{statement}
 use Rattle.targets.proofs.marks.mark_name.Tie as tie
@@ -31,7 +31,7 @@ mul-work : tie.Need-mul-work
 mul-work c = search needs
 
 slice-write-work : tie.Need-slice-write-work
-slice-write-work c = omega (arith, found-below (c .before .before .before .before .segment-named .ensures) (c .before .before .found .given .1))
+slice-write-work c = omega (arith, named-below (c .before .before .before .before .segment-named .ensures) (c .before .before .found .given .1))
 
 same-length-2 : tie.Need-same-length-2
 same-length-2 c = search needs
