@@ -2,6 +2,7 @@
 use Prim.Native.Nat.{ℕ, _+_, _*_, _-_, _≤_, _<_}
 use native.Mathlib.Numerals.{add-one}
 use native.Mathlib.Omega.{arith}
+use mathlib.Core.Bool.{true}
 use mathlib.Core.List.{List, [], _∷_}
 use mathlib.Core.Logic.{inr}
 use mathlib.Core.Path.{_≡_, refl, ap, sym, _∙_}
@@ -20,10 +21,16 @@ use Rattle.lines.specs.declared.added.Added.the-variants.{Rows, Refused}
 use Rattle.steps.specs.declared.checked.Checked.{Checked}
 use Rattle.steps.specs.declared.checked.Checked.the-variants as checked
 use Rattle.gfa_spec.specs.Bytes.{part, sum, one, nil}
-use Rattle.gfa_spec.specs.Reading.{segment, link, path, choose, accepted, refused, then, fields, parseLine, parseOrientation, parseS, parseL}
+use Rattle.gfa_spec.specs.Reading.{segment, link, path, choose, accepted, refused, then, fields, parseLine, isOrientation, parseS}
 use Rattle.gfa_spec.specs.Records.{paths, collect}
 use Rattle.gfa_spec.specs.Runs.{overPaths, stepCount}
 use Rattle.scan.specs.Places.{partAt, FoundAt, FewFields}
+use Rattle.lines.specs.declared.links.LinkFields.{LinkFields}
+use Rattle.lines.specs.declared.links.LinkFields.the-variants as held
+use Rattle.lines.specs.LinkLines.{LinkHolds, LinkRefused, LinkIs}
+use Rattle.tables.specs.declared.rows.LinkWords.{LinkWords}
+use Rattle.tables.specs.ByNumber.{linkWords}
+use Rattle.work.specs.Rows.{Small}
 use Rattle.lines.specs.Sorts.{SortIs, readAs}
 use Rattle.steps.specs.Checked.{checkedOf}
 use Rattle.tables.specs.Tables.{oneMore}
@@ -35,11 +42,11 @@ use Rattle.tables.specs.declared.kinds.PathKind.the-variants as kind
 use Rattle.tables.specs.Paths.{kindOf, kindIn, kindWord, columnOf, shortOf, stepsOf, pathAt}
 use Rattle.tables.specs.Entries.{wordsOf, entryOf}
 use Rattle.lines.specs.Lines.{segsOf, linksOf, pathsOf, NewRow, Ready, Entered, AddedIs, LineRead}
-use Rattle.gfa_spec.proofs.Entries.{orientation-accepted}
+use Rattle.gfa_spec.proofs.Steps.{by-orientation}
 use Rattle.scan.proofs.Fields.{field-bytes}
 use Rattle.tables.proofs.Numbers.{found-known, found-new}
 use Rattle.work.proofs.Rows.{rows-length, KeptWords, only-none, only-put, only-then, only-wider, only-kept, kept-within, outside-less}
-use Rattle.lines.proofs.Room.{field-short, column-short, spent-none, spent-segment, spent-link, spent-path, path-spare}
+use Rattle.lines.proofs.Room.{field-short, column-weight, column-short, spent-none, spent-segment, spent-link, spent-path, path-spare}
 use Rattle.steps.proofs.StepFields.{checked-value, checked-refused, path-short, path-refused, path-accepted}
 use Rattle.tables.proofs.TableRows.{segment-kept, segment-row-kept, link-kept, link-row-kept, steps-kept, step-row-kept, path-kept, path-row-kept, segment-put, segment-row-put, link-put, link-row-put, path-put, path-row-put, record-put, three-words}
 
@@ -155,90 +162,66 @@ module _ {text work work' : List ℕ} {b : Bases} {n : Counts} {start size : ℕ
 
 -- ---- L lines
 
-module _ {text work work' : List ℕ} {b : Bases} {n : Counts} {start size : ℕ} (s : SortIs text start size sort.Link) where
-  -- too few fields
-  pub l-short : {k : ℕ} → FewFields text start size k → k < 6 → AddedIs text work work' b n start size (Refused 7)
-  unfolding readAs parseL
-  l-short f h = record { says = record { read = s .is _ ∙ rw (lt-ltb (length (fields (partAt text start size))) 6 (omega (arith, f .few, h))) } }
+-- what the answer says, by its cases
+module _ {text : List ℕ} {start size : ℕ} {r : LinkFields} (h : LinkIs text start size r) where
+  link-holds : {w : LinkWords} → r ≡ held.Row w → LinkHolds text start size w
+  link-holds e = rw e at (h .says)
 
-  module _ {x y a along : ℕ} (f : FoundAt text start size 5 x y) (i : FoundAt text start size 2 a along)
-      {c : Checked} (o : c ≡ checkedOf (parseOrientation 8 (part a along text))) where
-    -- the first orientation is refused
-    pub l-first : {k : ℕ} → c ≡ checked.Refused k → AddedIs text work work' b n start size (Refused k)
-    unfolding readAs parseL then
-    l-first e =
-        record {
-          says =
-              record {
-                read = s .is _ ∙ rw (le-ltb (length (fields (partAt text start size))) 6 (f .more), field-bytes i, checked-refused (parseOrientation 8 (part a along text)) o e);
-              };
-        }
+  link-refused : {k : ℕ} → r ≡ held.Refused k → LinkRefused text start size k
+  link-refused e = rw e at (h .says)
 
-    module _ {leaves : ℕ} (e : c ≡ checked.Value leaves) {z zlong : ℕ} (j : FoundAt text start size 4 z zlong)
-        {d : Checked} (p : d ≡ checkedOf (parseOrientation 10 (part z zlong text))) where
-      -- the second orientation is refused
-      pub l-second : {k : ℕ} → d ≡ checked.Refused k → AddedIs text work work' b n start size (Refused k)
-      unfolding readAs parseL then
-      l-second q =
-          record {
-            says =
-                record {
-                  read =
-                      s .is _
-                      ∙ rw (
-                        le-ltb (length (fields (partAt text start size))) 6 (f .more),
-                        field-bytes i,
-                        checked-value (parseOrientation 8 (part a along text)) o e,
-                        field-bytes j,
-                        checked-refused (parseOrientation 10 (part z zlong text)) p q,
-                      );
-                };
-          }
+  -- the words fit
+  pub link-small : {work : List ℕ} {b : Bases} {n : Counts} {w : LinkWords} → Ready text work b n start size → r ≡ held.Row w → Small (linkWords w)
+  link-small {w = w} y e =
+      let l = link-holds e in
+      let small : (o : ℕ) → isOrientation o ≡ true → o < 256 = by-orientation (λ o. o < 256) (omega arith) (omega arith) in
+      omega (arith, y .inside, y .short, l .first, l .long, l .from, l .to, small (w .leaves) (l .leaves), small (w .enters) (l .enters))
 
-      -- the link is put into the table
-      pub l-added : {enters from fromlong to tolong : ℕ} → d ≡ checked.Value enters →
-          FoundAt text start size 1 from fromlong → FoundAt text start size 3 to tolong → Ready text work b n start size →
-          work' ≡ sets work (b .links + 8 * n .links) (start ∷ size ∷ from ∷ fromlong ∷ leaves ∷ to ∷ tolong ∷ enters ∷ []) →
-          AddedIs text work work' b n start size (Rows (Link (record { 0 = n .links })) (oneMore n 0 1 0 0))
-      unfolding readAs parseL then partAt entryOf
-      l-added {enters} {from} {fromlong} {to} {tolong} v u t r q =
-          let at = b .links + 8 * n .links in
-          let row = start ∷ size ∷ from ∷ fromlong ∷ leaves ∷ to ∷ tolong ∷ enters ∷ [] in
-          let h : at + 8 ≤ length work = omega (arith, r .beyond, r .behind, r .room) in
-          let long-enough = field-short {k = 4} (r .inside) f (λ z. omega (arith, s .letter)) in
-          record {
-            says =
-                rw q
-                (record {
-                  read =
-                      s .is _
-                      ∙ rw (
-                        le-ltb (length (fields (partAt text start size))) 6 (f .more),
-                        field-bytes i,
-                        checked-value (parseOrientation 8 (part a along text)) o e,
-                        field-bytes j,
-                        checked-value (parseOrientation 10 (part z zlong text)) p v,
-                        field-bytes u,
-                        field-bytes t,
-                        link-put text work at start size from fromlong leaves to tolong enters h,
-                      );
-                  lines = add-one (n .lines);
-                  segs = refl;
-                  links = refl;
-                  paths = refl;
-                  steps = omega (arith, no-steps text (sets work at row) b (Link (record { 0 = n .links })) refl);
-                  row = (
-                    refl,
-                    link-row-put text work at start size from fromlong leaves to tolong enters h (r .inside) (u .inside) (t .inside)
-                        (orientation-accepted 8 (part a along text) leaves (checked-value (parseOrientation 8 (part a along text)) o e) .1)
-                        (orientation-accepted 10 (part z zlong text) enters (checked-value (parseOrientation 10 (part z zlong text)) p v) .1),
+module _ {text work work' : List ℕ} {b : Bases} {n : Counts} {start size : ℕ} {r : LinkFields} (s : SortIs text start size sort.Link)
+    (h : LinkIs text start size r) where
+  -- the line is refused
+  pub l-refused : {k : ℕ} → r ≡ held.Refused k → AddedIs text work work' b n start size (Refused k)
+  unfolding readAs
+  l-refused e = record { says = record { read = s .is _ ∙ link-refused h e .read } }
+
+  -- the link is put into the table
+  pub l-added : {w : LinkWords} {m : Counts} → r ≡ held.Row w → Ready text work b n start size → work' ≡ sets work (b .links + 8 * n .links) (linkWords w) →
+      m ≡ oneMore n 0 1 0 0 → AddedIs text work work' b n start size (Rows (Link (record { 0 = n .links })) m)
+  unfolding readAs partAt entryOf
+  l-added {w} e y q more =
+      let l = link-holds h e in
+      let at = b .links + 8 * n .links in
+      let row = linkWords w in
+      let fits : at + 8 ≤ length work = omega (arith, y .beyond, y .behind, y .room) in
+      let long-enough = column-weight {k = 4} (l .columns) (λ z. omega (arith, s .letter)) in
+      record {
+        says =
+            rw (q, more)
+            (record {
+              read =
+                  s .is _
+                  ∙ l .read
+                  ∙ rw (
+                    link-put text work at (w .line .start) (w .line .size) (w .from .start) (w .from .size) (w .leaves) (w .to .start) (w .to .size) (w .enters) fits,
+                    l .first,
+                    l .long,
                   );
-                  visits = λ i l h. absurd (omega arith);
-                  spent = spent-link text start size n (r .inside) (omega arith) (s .letter);
-                  long = length-sets work at row;
-                  only = only-wider _ (only-put row work at) (λ i o. (outside-less at (at + 8) (o .1 .1 .0) (omega arith) (omega arith), tt));
-                });
-          }
+              lines = add-one (n .lines);
+              segs = refl;
+              links = refl;
+              paths = refl;
+              steps = omega (arith, no-steps text (sets work at row) b (Link (record { 0 = n .links })) refl);
+              row = (
+                refl,
+                link-row-put text work at (w .line .start) (w .line .size) (w .from .start) (w .from .size) (w .leaves) (w .to .start) (w .to .size) (w .enters) fits
+                    (omega (arith, y .inside, l .first, l .long)) (l .from) (l .to) (l .leaves) (l .enters),
+              );
+              visits = λ i l h. absurd (omega arith);
+              spent = spent-link text start size n (y .inside) (omega arith) (s .letter);
+              long = length-sets work at row;
+              only = only-wider _ (only-put row work at) (λ i o. (outside-less at (at + 8) (o .1 .1 .0) (omega arith) (omega arith), tt));
+            });
+      }
 
 -- ---- P and W lines
 

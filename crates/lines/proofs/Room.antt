@@ -15,6 +15,7 @@ use Rattle.scan.specs.Places.{partAt, FoundAt}
 use Rattle.tables.specs.Tables.{oneMore}
 use Rattle.tables.specs.Paths.{letterOf, columnOf}
 use Rattle.lines.specs.Room.{starting, segsIn, linksIn, pathsIn, spareIn, total, basesOf}
+use Rattle.lines.specs.Columns.{HasColumn}
 use Rattle.lines.specs.Lines.{Spent}
 use Rattle.gfa_spec.proofs.Parts.{part-first, length-part}
 use Rattle.gfa_spec.proofs.Lines.{dropReturn-front}
@@ -103,25 +104,27 @@ first-some at x xs h = rw (ne-eqb x 9 h) (go (split 9 (suc at) xs))
     go [] = omega arith
     go (p ∷ ps) = omega arith
 
-module _ {text : List ℕ} {start size k at long : ℕ} (h : start + size ≤ length text) (f : FoundAt text start size (suc k) at long) where
-  -- the length of a field that is found
-  field-long : length (nth (suc k) (fields (partAt text start size)) nowhere .bytes) ≡ long
-  unfolding partAt
-  field-long = rw (f .field) (length-part at long text (f .inside))
-
+module _ {text : List ℕ} {start size k : ℕ} (c : HasColumn text start size (suc k)) where
   -- a line with a second field is not empty
   field-some : k + 1 ≤ size
   unfolding fields partAt
-  field-some = omega (arith, nth-weight (suc k) (fields (partAt text start size)) (f .more), weight-split 9 start (part start size text), length-part start size text h)
+  field-some = omega (arith, nth-weight (suc k) (fields (partAt text start size)) (c .more), weight-split 9 start (part start size text), length-part start size text (c .inside))
 
   -- a field behind the first is shorter than the line by its place and one
-  pub field-short : (getD text start 0 ≡ 9 → ⊥) → long + (k + 2) ≤ size
+  pub column-weight : (getD text start 0 ≡ 9 → ⊥) → length (nth (suc k) (fields (partAt text start size)) nowhere .bytes) + (k + 2) ≤ size
   unfolding fields partAt
-  field-short n =
-      let b = part-first start size text (omega (arith, field-some)) h in
+  column-weight n =
+      let b = part-first start size text (omega (arith, field-some)) (c .inside) in
       let s = first-some start (getD text start 0) (part (suc start) (size - 1) text) n in
       let t : 0 < length (nth 0 (fields (partAt text start size)) nowhere .bytes) = rw b s in
-      omega (arith, field-long, later-weight k (fields (partAt text start size)) (f .more) t, weight-split 9 start (part start size text), length-part start size text h)
+      omega (arith, later-weight k (fields (partAt text start size)) (c .more) t, weight-split 9 start (part start size text), length-part start size text (c .inside))
+
+-- the same of a field that is found
+pub field-short : {text : List ℕ} {start size k at long : ℕ} → start + size ≤ length text → FoundAt text start size (suc k) at long → (getD text start 0 ≡ 9 → ⊥) →
+    long + (k + 2) ≤ size
+unfolding partAt
+field-short {text} {at = at} {long = long} h f n =
+    omega (arith, column-weight (record { inside = h; more = f .more }) n, ap (λ p. length (p .bytes)) (f .field), length-part at long text (f .inside))
 
 -- the field of a path's steps
 pub column-short : (k : Kind) {text : List ℕ} {start size at long : ℕ} → start + size ≤ length text → getD text start 0 ≡ letterOf k →
