@@ -11,8 +11,10 @@ use lib.Seq.{sets, length-sets}
 use borrow.Author.Tests.{lt-ltb, le-ltb}
 use Rattle.tables.specs.declared.entry.Record.{Record}
 use Rattle.tables.specs.declared.entry.Record.the-variants.{Segment, Link, Path, Header, Comment, Blank, Other}
-use Rattle.tables.specs.declared.segments.Found.{Found}
+use Rattle.tables.specs.declared.segments.Found as search-found
 use Rattle.tables.specs.declared.segments.Found.the-variants as found
+use Rattle.scan.specs.declared.places.Field.{Field}
+use Rattle.scan.specs.declared.places.Field.the-variants.{Found, Missing}
 use Rattle.lines.specs.declared.sort.Sort.the-variants as sort
 use Rattle.tables.specs.declared.tables.Bases.{Bases}
 use Rattle.tables.specs.declared.tables.Counts.{Counts}
@@ -20,34 +22,39 @@ use Rattle.lines.specs.declared.added.Added.{Added}
 use Rattle.lines.specs.declared.added.Added.the-variants.{Rows, Refused}
 use Rattle.steps.specs.declared.checked.Checked.{Checked}
 use Rattle.steps.specs.declared.checked.Checked.the-variants as checked
-use Rattle.gfa_spec.specs.Bytes.{part, sum, one, nil}
-use Rattle.gfa_spec.specs.Reading.{segment, link, path, choose, accepted, refused, then, fields, parseLine, isOrientation, parseS}
+use Rattle.gfa_spec.specs.Bytes.{sum, one, nil}
+use Rattle.gfa_spec.specs.Reading.{segment, link, path, choose, accepted, fields, parseLine, isOrientation, parseS}
 use Rattle.gfa_spec.specs.Records.{paths, collect}
 use Rattle.gfa_spec.specs.Runs.{overPaths, stepCount}
-use Rattle.scan.specs.Places.{partAt, FoundAt, FewFields}
+use Rattle.scan.specs.Places.{partAt, FewFields, FieldIs}
 use Rattle.lines.specs.declared.links.LinkFields.{LinkFields}
-use Rattle.lines.specs.declared.links.LinkFields.the-variants as held
+use Rattle.lines.specs.declared.links.LinkFields.the-variants as link-fields
+use Rattle.lines.specs.declared.segments.SegmentFields.{SegmentFields}
+use Rattle.lines.specs.declared.segments.SegmentFields.the-variants as segment-fields
+use Rattle.tables.specs.declared.entry.SegmentNo.{SegmentNo}
+use Rattle.tables.specs.declared.rows.SegmentWords.{SegmentWords}
+use Rattle.lines.specs.SegmentLines.{SegmentHolds, SegmentFieldsAre}
+use Rattle.lines.specs.PathLines.{PathHolds, PathRefused, PathSays, PathIs}
 use Rattle.lines.specs.LinkLines.{LinkHolds, LinkRefused, LinkIs}
 use Rattle.tables.specs.declared.rows.LinkWords.{LinkWords}
-use Rattle.tables.specs.ByNumber.{linkWords}
+use Rattle.tables.specs.ByNumber.{segmentWords, linkWords}
 use Rattle.work.specs.Rows.{Small}
 use Rattle.lines.specs.Sorts.{SortIs, readAs}
-use Rattle.steps.specs.Checked.{checkedOf}
 use Rattle.tables.specs.Tables.{oneMore}
 use Rattle.tables.specs.Segments.{segmentsAt, idsOf, FoundIs}
 use Rattle.tables.specs.Steps.{stepAt, stepsAt}
-use Rattle.steps.specs.StepFields.{StepsPut}
+use Rattle.steps.specs.StepFields.{StepsSay, StepsIs}
 use Rattle.tables.specs.declared.kinds.PathKind.{PathKind}
 use Rattle.tables.specs.declared.kinds.PathKind.the-variants as kind
 use Rattle.tables.specs.Paths.{kindOf, kindIn, kindWord, columnOf, shortOf, stepsOf, pathAt}
 use Rattle.tables.specs.Entries.{wordsOf, entryOf}
 use Rattle.lines.specs.Lines.{segsOf, linksOf, pathsOf, NewRow, Ready, Entered, AddedIs, LineRead}
 use Rattle.gfa_spec.proofs.Steps.{by-orientation}
-use Rattle.scan.proofs.Fields.{field-bytes}
+use Rattle.scan.proofs.Fields.{field-bytes, found-at, few-fields}
 use Rattle.tables.proofs.Numbers.{found-known, found-new}
 use Rattle.work.proofs.Rows.{rows-length, KeptWords, only-none, only-put, only-then, only-wider, only-kept, kept-within, outside-less}
-use Rattle.lines.proofs.Room.{field-short, column-weight, column-short, spent-none, spent-segment, spent-link, spent-path, path-spare}
-use Rattle.steps.proofs.StepFields.{checked-value, checked-refused, path-short, path-refused, path-accepted}
+use Rattle.lines.proofs.Room.{column-weight, column-short, spent-none, spent-segment, spent-link, spent-path, path-spare}
+use Rattle.steps.proofs.StepFields.{path-short, path-refused, path-accepted}
 use Rattle.tables.proofs.TableRows.{segment-kept, segment-row-kept, link-kept, link-row-kept, steps-kept, step-row-kept, path-kept, path-row-kept, segment-put, segment-row-put, link-put, link-row-put, path-put, path-row-put, record-put, three-words}
 
 -- ---- steps of a record
@@ -111,48 +118,72 @@ module _ {text work : List ℕ} {b : Bases} {n : Counts} {start size : ℕ} (y :
 
 -- ---- S lines
 
-module _ {text work work' : List ℕ} {b : Bases} {n : Counts} {start size : ℕ} (s : SortIs text start size sort.Segment) where
-  -- too few fields
-  pub s-short : {k : ℕ} → FewFields text start size k → k < 3 → AddedIs text work work' b n start size (Refused 5)
-  unfolding readAs parseS
-  s-short f h = record { says = record { read = s .is _ ∙ rw (lt-ltb (length (fields (partAt text start size))) 3 (omega (arith, f .few, h))) } }
+module _ {text : List ℕ} {start size : ℕ} {r : SegmentFields} (h : SegmentFieldsAre text start size r) where
+  segment-holds : {w : SegmentWords} → r ≡ segment-fields.Row w → SegmentHolds text start size w
+  segment-holds e = rw e at (h .says)
 
-  module _ {sequence long id wide : ℕ} (f : FoundAt text start size 2 sequence long) (i : FoundAt text start size 1 id wide)
-      {r : Found} (k : FoundIs text work (b .segs) (n .segs) id wide r) where
+  -- the words fit
+  pub segment-small : {work : List ℕ} {b : Bases} {n : Counts} {w : SegmentWords} → Ready text work b n start size → r ≡ segment-fields.Row w → Small (segmentWords w)
+  segment-small y e =
+      let l = segment-holds e in
+      omega (arith, y .inside, y .short, l .first, l .long, l .id .inside, l .sequence .inside)
+
+  -- the ID is a part of the text
+  pub segment-id : {w : SegmentWords} → r ≡ segment-fields.Row w → w .id .start + w .id .size ≤ length text
+  segment-id e = segment-holds e .id .inside
+
+module _ {text work work' : List ℕ} {b : Bases} {n : Counts} {start size : ℕ} {r : SegmentFields} (s : SortIs text start size sort.Segment)
+    (h : SegmentFieldsAre text start size r) where
+  -- too few fields
+  pub s-short : r ≡ segment-fields.Short → AddedIs text work work' b n start size (Refused 5)
+  unfolding readAs parseS
+  s-short e =
+      let few : FewFields text start size 2 = rw e at (h .says) in
+      record { says = record { read = s .is _ ∙ rw (lt-ltb (length (fields (partAt text start size))) 3 (omega (arith, few .few))) } }
+
+  module _ {w : SegmentWords} (e : r ≡ segment-fields.Row w) {f : search-found.Found} (k : FoundIs text work (b .segs) (n .segs) (w .id .start) (w .id .size) f) where
     -- an ID that was read before
-    pub s-known : {j : ℕ} → r ≡ found.At (record { 0 = j }) → AddedIs text work work' b n start size (Refused 6)
+    pub s-known : {i : SegmentNo} → f ≡ found.At i → AddedIs text work work' b n start size (Refused 6)
     unfolding readAs parseS
-    s-known e = record { says = record { read = s .is _ ∙ rw (le-ltb (length (fields (partAt text start size))) 3 (f .more), field-bytes i, found-known k e) } }
+    s-known at =
+        let l = segment-holds h e in
+        record { says = record { read = s .is _ ∙ rw (le-ltb (length (fields (partAt text start size))) 3 (l .columns .more), field-bytes (l .id), found-known k at) } }
 
     -- a new one
-    pub s-added : r ≡ found.Nothing → Ready text work b n start size →
-        work' ≡ sets work (b .segs + 6 * n .segs) (start ∷ size ∷ id ∷ wide ∷ sequence ∷ long ∷ []) →
-        AddedIs text work work' b n start size (Rows (Segment (record { 0 = n .segs })) (oneMore n 1 0 0 0))
+    pub s-added : {m : Counts} → f ≡ found.Nothing → Ready text work b n start size → work' ≡ sets work (b .segs + 6 * n .segs) (segmentWords w) →
+        m ≡ oneMore n 1 0 0 0 → AddedIs text work work' b n start size (Rows (Segment (record { 0 = n .segs })) m)
     unfolding readAs parseS partAt entryOf
-    s-added e y q =
+    s-added new y q more =
+        let l = segment-holds h e in
         let at = b .segs + 6 * n .segs in
-        let row = start ∷ size ∷ id ∷ wide ∷ sequence ∷ long ∷ [] in
-        let h : at + 6 ≤ length work = omega (arith, y .between, y .beyond, y .behind, y .room) in
-        let long-enough = field-short {k = 1} (y .inside) f (λ z. omega (arith, s .letter)) in
+        let row = segmentWords w in
+        let fits : at + 6 ≤ length work = omega (arith, y .between, y .beyond, y .behind, y .room) in
+        let long-enough = column-weight {k = 1} (l .columns) (λ z. omega (arith, s .letter)) in
         record {
           says =
-              rw q
+              rw (q, more)
               (record {
                 read =
                     s .is _
                     ∙ rw (
-                      le-ltb (length (fields (partAt text start size))) 3 (f .more),
-                      field-bytes i,
-                      found-new k e,
-                      field-bytes f,
-                      segment-put text work at start size id wide sequence long h,
+                      le-ltb (length (fields (partAt text start size))) 3 (l .columns .more),
+                      field-bytes (l .id),
+                      found-new k new,
+                      field-bytes (l .sequence),
+                      segment-put text work at (w .line .start) (w .line .size) (w .id .start) (w .id .size) (w .sequence .start) (w .sequence .size) fits,
+                      l .first,
+                      l .long,
                     );
                 lines = add-one (n .lines);
                 segs = refl;
                 links = refl;
                 paths = refl;
                 steps = omega (arith, no-steps text (sets work at row) b (Segment (record { 0 = n .segs })) refl);
-                row = (refl, segment-row-put text work at start size id wide sequence long h (y .inside) (i .inside) (f .inside));
+                row = (
+                  refl,
+                  segment-row-put text work at (w .line .start) (w .line .size) (w .id .start) (w .id .size) (w .sequence .start) (w .sequence .size) fits
+                      (omega (arith, y .inside, l .first, l .long)) (l .id .inside) (l .sequence .inside),
+                );
                 visits = λ i l h. absurd (omega arith);
                 spent = spent-segment text start size n (y .inside) (omega arith) (s .letter);
                 long = length-sets work at row;
@@ -164,14 +195,14 @@ module _ {text work work' : List ℕ} {b : Bases} {n : Counts} {start size : ℕ
 
 -- what the answer says, by its cases
 module _ {text : List ℕ} {start size : ℕ} {r : LinkFields} (h : LinkIs text start size r) where
-  link-holds : {w : LinkWords} → r ≡ held.Row w → LinkHolds text start size w
+  link-holds : {w : LinkWords} → r ≡ link-fields.Row w → LinkHolds text start size w
   link-holds e = rw e at (h .says)
 
-  link-refused : {k : ℕ} → r ≡ held.Refused k → LinkRefused text start size k
+  link-refused : {k : ℕ} → r ≡ link-fields.Refused k → LinkRefused text start size k
   link-refused e = rw e at (h .says)
 
   -- the words fit
-  pub link-small : {work : List ℕ} {b : Bases} {n : Counts} {w : LinkWords} → Ready text work b n start size → r ≡ held.Row w → Small (linkWords w)
+  pub link-small : {work : List ℕ} {b : Bases} {n : Counts} {w : LinkWords} → Ready text work b n start size → r ≡ link-fields.Row w → Small (linkWords w)
   link-small {w = w} y e =
       let l = link-holds e in
       let small : (o : ℕ) → isOrientation o ≡ true → o < 256 = by-orientation (λ o. o < 256) (omega arith) (omega arith) in
@@ -180,12 +211,12 @@ module _ {text : List ℕ} {start size : ℕ} {r : LinkFields} (h : LinkIs text 
 module _ {text work work' : List ℕ} {b : Bases} {n : Counts} {start size : ℕ} {r : LinkFields} (s : SortIs text start size sort.Link)
     (h : LinkIs text start size r) where
   -- the line is refused
-  pub l-refused : {k : ℕ} → r ≡ held.Refused k → AddedIs text work work' b n start size (Refused k)
+  pub l-refused : {k : ℕ} → r ≡ link-fields.Refused k → AddedIs text work work' b n start size (Refused k)
   unfolding readAs
   l-refused e = record { says = record { read = s .is _ ∙ link-refused h e .read } }
 
   -- the link is put into the table
-  pub l-added : {w : LinkWords} {m : Counts} → r ≡ held.Row w → Ready text work b n start size → work' ≡ sets work (b .links + 8 * n .links) (linkWords w) →
+  pub l-added : {w : LinkWords} {m : Counts} → r ≡ link-fields.Row w → Ready text work b n start size → work' ≡ sets work (b .links + 8 * n .links) (linkWords w) →
       m ≡ oneMore n 0 1 0 0 → AddedIs text work work' b n start size (Rows (Link (record { 0 = n .links })) m)
   unfolding readAs partAt entryOf
   l-added {w} e y q more =
@@ -231,61 +262,101 @@ unfolding kindOf
 kind-word kind.P = refl
 kind-word kind.W = refl
 
--- what the steps may use
-pub p-room : {text work : List ℕ} {b : Bases} {n : Counts} {start size j from long : ℕ} {kind : PathKind} → SortIs text start size (sort.Path kind) →
-    FoundAt text start size j from long → j ≡ columnOf (kindIn kind) → Ready text work b n start size →
-    (b .steps + 3 * n .steps + 3 * long + 3 ≤ length work) × (long + 3 ≤ size)
-p-room {text} {n = n} {start = start} {size = size} {kind = kind} s f c y =
-    let short = column-short (kindIn kind) (y .inside) (s .letter) (rw c at f) in
-    omega (arith, short, y .room, path-spare text start size n (y .inside) (kindIn kind) (omega (arith, short)) (s .letter))
-
-module _ {text work work' : List ℕ} {b : Bases} {n : Counts} {start size : ℕ} {kind : PathKind} (s : SortIs text start size (sort.Path kind)) where
+-- the field that holds the steps
+module _ {text work : List ℕ} {b : Bases} {n : Counts} {start size j : ℕ} {kind : PathKind} {f : Field} (h : FieldIs text start size j f) (c : j ≡ columnOf (kindIn kind)) where
   -- too few fields
-  pub p-short : {j k : ℕ} → FewFields text start size j → j ≡ columnOf (kindIn kind) → k ≡ shortOf (kindIn kind) → AddedIs text work work' b n start size (Refused k)
-  unfolding readAs
-  p-short f c e = record { says = record { read = s .is _ ∙ path-short (kindIn kind) (rw c at f) ∙ rw e } }
+  pub path-missing : {work' : List ℕ} {k : ℕ} → f ≡ Missing → k ≡ shortOf (kindIn kind) → PathIs text work work' b n start size kind (checked.Refused k)
+  path-missing e k = record { says = record { read = path-short (kindIn kind) (rw c at (few-fields h e)) ∙ rw k } }
 
-  module _ {j from long : ℕ} (f : FoundAt text start size j from long) (c : j ≡ columnOf (kindIn kind)) where
-    -- a step is refused
-    pub p-refused : {k : ℕ} → stepsOf (kindIn kind) (partAt text from long) ≡ refused k → AddedIs text work work' b n start size (Refused k)
+  module _ {from long : ℕ} (e : f ≡ Found from long) (s : SortIs text start size (sort.Path kind)) (y : Ready text work b n start size) where
+    steps-short : long + 3 ≤ size
+    steps-short = column-short (kindIn kind) (y .inside) (s .letter) (rw c at (found-at h e))
+
+    -- where they are, and what they may use
+    pub steps-inside : from + long ≤ length text
+    steps-inside = found-at h e .inside
+
+    pub steps-room : {base : ℕ} → base ≡ b .steps + 3 * n .steps → base + 3 * long + 3 ≤ length work
+    steps-room p = omega (arith, steps-short, y .room, path-spare text start size n (y .inside) (kindIn kind) (omega (arith, steps-short)) (s .letter))
+
+    -- what is said of the steps is said of the line
+    pub path-told : {work' : List ℕ} {base : ℕ} {r : Checked} → base ≡ b .steps + 3 * n .steps →
+        StepsIs text work work' base long (stepsOf (kindIn kind) (partAt text from long)) r → PathIs text work work' b n start size kind r
+    path-told {work'} {r = r} p i = record { says = go r (rw p at (i .says)) }
+      where
+        go : (r : Checked) → StepsSay text work work' (b .steps + 3 * n .steps) long (stepsOf (kindIn kind) (partAt text from long)) r →
+            PathSays text work work' b n start size kind r
+        go (checked.Value m) q =
+            record {
+              read = path-accepted (kindIn kind) (rw c at (found-at h e)) _ (q .read);
+              few = omega (arith, q .few, steps-short);
+              rows = q .rows;
+              long = q .long;
+              only = q .only;
+            }
+        go (checked.Refused k) q = record { read = path-refused (kindIn kind) (rw c at (found-at h e)) q }
+
+-- what the answer says, by its cases
+module _ {text work middle : List ℕ} {b : Bases} {n : Counts} {start size : ℕ} {kind : PathKind} {c : Checked} (h : PathIs text work middle b n start size kind c) where
+  path-holds : {m : ℕ} → c ≡ checked.Value m → PathHolds text work middle b n start size kind m
+  path-holds e = rw e at (h .says)
+
+  -- how many steps there are
+  module _ {m : ℕ} (e : c ≡ checked.Value m) (y : Ready text work b n start size) where
+    pub path-few : m ≤ 1048576
+    path-few = omega (arith, path-holds e .few, y .inside, y .short)
+
+    pub path-end : n .steps + m < 4294967296
+    path-end = omega (arith, path-few, y .few)
+
+  module _ {work' : List ℕ} (s : SortIs text start size (sort.Path kind)) where
+    -- the line is refused
+    pub p-refused : {k : ℕ} → c ≡ checked.Refused k → AddedIs text work work' b n start size (Refused k)
     unfolding readAs
-    p-refused e = record { says = record { read = s .is _ ∙ path-refused (kindIn kind) (rw c at f) e } }
+    p-refused e = let r : PathRefused text start size kind _ = rw e at (h .says) in record { says = record { read = s .is _ ∙ r .read } }
 
-    -- the steps and the row are put into the tables
-    pub p-added : {middle : List ℕ} {m : ℕ} → Ready text work b n start size →
-        StepsPut text work middle (b .steps + 3 * n .steps) long m (stepsOf (kindIn kind) (partAt text from long)) →
+    -- the row is put into the table, behind the steps
+    pub p-added : {m : ℕ} {counts : Counts} → c ≡ checked.Value m → Ready text work b n start size →
         work' ≡ sets middle (b .paths + 5 * n .paths) (kindWord kind ∷ start ∷ size ∷ (n .steps) ∷ (n .steps + m - n .steps) ∷ []) →
-        AddedIs text work work' b n start size (Rows (Path (record { 0 = n .paths })) (oneMore n 0 0 1 m))
+        counts ≡ oneMore n 0 0 1 m → AddedIs text work work' b n start size (Rows (Path (record { 0 = n .paths })) counts)
     unfolding readAs entryOf
-    p-added {middle} {m} y p q =
+    p-added {m} e y q more =
+        let p = path-holds e in
         let at = b .paths + 5 * n .paths in
         let base = b .steps + 3 * n .steps in
         let row = kindWord kind ∷ start ∷ size ∷ (n .steps) ∷ m ∷ [] in
         let count : n .steps + m - n .steps ≡ m = omega arith in
-        let room = p-room s f c y in
-        let few = p .few in
         let same = p .long in
-        let h : at + 5 ≤ length middle = omega (arith, y .behind, room, same) in
+        let fits : at + 5 ≤ length middle = omega (arith, y .behind, y .room, same) in
         let only = only-put row middle at in
         let high = only-kept (b .steps) (b .steps + 3 * (n .steps + m)) only (inr (omega (arith, y .behind)), tt) in
         record {
           says =
-              rw (q, count)
+              rw (q, count, more)
               (record {
                 read =
                     s .is _
-                    ∙ path-accepted (kindIn kind) (rw c at f) _ (p .read)
-                    ∙ rw (path-put text middle at (b .steps) (kindWord kind) start size (n .steps) m h, kind-word kind, steps-kept high text base m (omega arith) (omega arith));
+                    ∙ p .read
+                    ∙ rw (
+                      path-put text middle at (b .steps) (kindWord kind) start size (n .steps) m fits,
+                      kind-word kind,
+                      steps-kept high text base m (omega arith) (omega arith),
+                    );
                 lines = add-one (n .lines);
                 segs = refl;
                 links = refl;
                 paths = refl;
-                steps = omega (arith, path-steps text (sets middle at row) b (n .paths) base m (ap (λ q. q .steps) (path-put text middle at (b .steps) (kindWord kind) start size (n .steps) m h)));
-                row = (refl, path-row-put text middle at (n .steps + m) (kindWord kind) start size (n .steps) m h (y .inside) (omega arith));
+                steps =
+                    omega (
+                      arith,
+                      path-steps text (sets middle at row) b (n .paths) base m
+                          (ap (λ q. q .steps) (path-put text middle at (b .steps) (kindWord kind) start size (n .steps) m fits)),
+                    );
+                row = (refl, path-row-put text middle at (n .steps + m) (kindWord kind) start size (n .steps) m fits (y .inside) (omega arith));
                 visits = λ i l k.
                     let place : base + 3 * (i - n .steps) ≡ b .steps + 3 * i = omega (arith, l) in
                     step-row-kept high text (b .steps + 3 * i) (omega arith) (omega (arith, k)) (rw place at (p .rows .row (i - n .steps) (omega (arith, l, k))));
-                spent = spent-path text start size n (y .inside) (kindIn kind) m (omega (arith, few, room)) (s .letter);
+                spent = spent-path text start size n (y .inside) (kindIn kind) m (p .few) (s .letter);
                 long = length-sets middle at row ∙ same;
                 only =
                     only-then _ (p .only) only

@@ -28,23 +28,18 @@ module _ {text : List ℕ} {start size : ℕ} (h : start + size ≤ length text)
   unfolding parseLine readAs partAt isEmpty startsComment
   sort-comment n e = record { is = λ ids. rw (part-first start size text (omega arith) h, e); letter = tt }
 
--- A line that is neither blank nor a comment, with its first tab.
-pub record Fielded (text : List ℕ) (start size tab : ℕ) : Type 0 where
-  pub inside : start + size ≤ length text
-  pub some : size ≡ 0 → ⊥
-  pub plain : getD text start 0 ≡ 35 → ⊥
-  pub first : FirstIs text 9 start (start + size) tab
-
-module _ {text : List ℕ} {start size tab : ℕ} (l : Fielded text start size tab) where
+-- a line that is neither blank nor a comment, with its first tab
+module _ {text : List ℕ} {start size tab : ℕ} (first : FirstIs text 9 start (start + size) tab) (inside : start + size ≤ length text) (some : size ≡ 0 → ⊥)
+    (plain : getD text start 0 ≡ 35 → ⊥) where
   -- it is read by its fields
   by-fields : (ids : List (List ℕ)) → parseLine ids (partAt text start size) ≡ parseFields ids (partAt text start size) (fields (partAt text start size))
   unfolding parseLine partAt isEmpty startsComment
-  by-fields ids = rw (part-first start size text (omega (arith, l .some)) (l .inside)) (simp (ne-eqb _ _ (l .plain)))
+  by-fields ids = rw (part-first start size text (omega arith) inside) (simp (ne-eqb _ _ plain))
 
   -- the first field ends at the first tab
   first-field : field 0 (fields (partAt text start size)) ≡ slice start tab text
   unfolding field fields partAt nth
-  first-field = rw (part-slice start size text, split-range (l .first))
+  first-field = rw (part-slice start size text, split-range first)
 
   -- a first field of some other length than 1 is none of the five
   no-letter : (tab ≡ start + 1 → ⊥) → (b : ℕ) → same (field 0 (fields (partAt text start size))) (b ∷ []) ≡ false

@@ -1,5 +1,5 @@
--- The columns of a line, and the ends of a link. Assumes nothing.
-use Prim.Native.Nat.{ℕ, _+_, _≤_, _<_}
+-- The columns of a line: the fields of S and L lines. Assumes nothing.
+use Prim.Native.Nat.{ℕ, _+_, _≤_}
 use native.Mathlib.Omega.{arith}
 use mathlib.Core.List.{List}
 use mathlib.Core.Path.{_≡_, refl}
@@ -19,8 +19,10 @@ use Rattle.steps.proofs.StepFields.{checked-value, checked-refused}
 use Rattle.tables.specs.declared.rows.Place.{Place}
 use Rattle.lines.specs.declared.links.End.{End}
 use Rattle.lines.specs.declared.links.End.the-variants as end
-use Rattle.lines.specs.declared.links.LinkFields.the-variants as held
+use Rattle.lines.specs.declared.links.LinkFields.the-variants as link-fields
+use Rattle.lines.specs.declared.segments.SegmentFields.the-variants as segment-fields
 use Rattle.lines.specs.Columns.{HasColumn}
+use Rattle.lines.specs.SegmentLines.{SegmentFieldsAre}
 use Rattle.lines.specs.LinkLines.{EndHolds, EndRefused, EndIs, LinkIs}
 
 -- ---- columns
@@ -34,6 +36,20 @@ has-column h f e l = record { inside = h; more = omega (arith, found-at f e .mor
 pub column-there : {text : List ℕ} {start size k at long : ℕ} {r : Field} → HasColumn text start size k → FieldIs text start size k r → r ≡ Missing →
     FoundAt text start size k at long
 column-there c f e = absurd (omega (arith, c .more, few-fields f e .few))
+
+-- ---- an S line
+
+module _ {text : List ℕ} {start size : ℕ} {f : Field} (h : FieldIs text start size 2 f) where
+  -- too few fields
+  pub segment-short : f ≡ Missing → SegmentFieldsAre text start size segment-fields.Short
+  segment-short e = record { says = few-fields h e }
+
+  -- the words of its row
+  pub segment-held : {x y : ℕ} {p q : Place} → f ≡ Found x y → start + size ≤ length text → FoundAt text start size 1 (p .start) (p .size) →
+      FoundAt text start size 2 (q .start) (q .size) →
+      SegmentFieldsAre text start size (segment-fields.Row (record { line = record { start = start; size = size }; id = p; sequence = q }))
+  segment-held e inside i s =
+      record { says = record { columns = record { inside = inside; more = s .more }; first = refl; long = refl; id = i; sequence = s } }
 
 -- ---- an end of a link
 
@@ -57,7 +73,7 @@ module _ {text : List ℕ} {start size name mark n : ℕ} {r : End} (h : EndIs t
 
 module _ {text : List ℕ} {start size : ℕ} {f : Field} (h : FieldIs text start size 5 f) where
   -- too few fields
-  pub link-short : f ≡ Missing → LinkIs text start size (held.Refused 7)
+  pub link-short : f ≡ Missing → LinkIs text start size (link-fields.Refused 7)
   unfolding parseL
   link-short e = record { says = record { read = rw (lt-ltb (length (fields (partAt text start size))) 6 (omega (arith, few-fields h e .few))) } }
 
@@ -66,20 +82,20 @@ module _ {text : List ℕ} {start size : ℕ} {f : Field} (h : FieldIs text star
     enough = omega (arith, found-at h found .more)
 
     -- the first orientation is refused
-    pub link-first : {k : ℕ} → a ≡ end.Refused k → LinkIs text start size (held.Refused k)
+    pub link-first : {k : ℕ} → a ≡ end.Refused k → LinkIs text start size (link-fields.Refused k)
     unfolding parseL then
     link-first e = record { says = record { read = rw (le-ltb (length (fields (partAt text start size))) 6 enough, end-not i e .reads) } }
 
     module _ {p : Place} {leaves : ℕ} (e : a ≡ end.At p leaves) {z : End} (j : EndIs text start size 3 4 10 z) where
       -- the second orientation is refused
-      pub link-second : {k : ℕ} → z ≡ end.Refused k → LinkIs text start size (held.Refused k)
+      pub link-second : {k : ℕ} → z ≡ end.Refused k → LinkIs text start size (link-fields.Refused k)
       unfolding parseL then
       link-second d =
           record { says = record { read = rw (le-ltb (length (fields (partAt text start size))) 6 enough, end-at i e .reads, end-not j d .reads) } }
 
       -- the words of its row
       pub link-held : {q : Place} {enters : ℕ} → z ≡ end.At q enters → start + size ≤ length text →
-          LinkIs text start size (held.Row (record { line = record { start = start; size = size }; from = p; leaves = leaves; to = q; enters = enters }))
+          LinkIs text start size (link-fields.Row (record { line = record { start = start; size = size }; from = p; leaves = leaves; to = q; enters = enters }))
       unfolding parseL then partAt
       link-held {q} {enters} d inside =
           let u = end-at i e in

@@ -1,7 +1,9 @@
 -- What the contracts on a line say.
 pub mod Sorts
 pub mod Columns
+pub mod SegmentLines
 pub mod LinkLines
+pub mod PathLines
 pub mod Room
 pub mod Added
 pub mod Lines

@@ -33,7 +33,7 @@ pub fn parse_orientation(text: &[u8], at: usize, size: usize, n: usize) -> Check
     if size == 0 {
         return Checked::Refused(n);
     }
-    if size != 1 {
+    if 1 < size {
         return Checked::Refused(n + 1);
     }
     let b = text[at];

@@ -3,7 +3,7 @@ use Prim.Native.Nat.{ℕ, suc, _+_, _-_, _≤_, _<_}
 use native.Mathlib.Numerals.{add-one}
 use native.Mathlib.Omega.{arith}
 use mathlib.Core.Bool.{Bool, true, false, cond}
-use mathlib.Core.List.{List, []}
+use mathlib.Core.List.{List, [], _∷_}
 use mathlib.Core.Path.{_≡_, refl, sym, _∙_}
 use lib.Dec.{ltb}
 use lib.ListN.{length, getD}
@@ -19,11 +19,9 @@ use Rattle.tables.specs.Steps.{stepsAt}
 use Rattle.steps.specs.StepFields.{StepsPut, StepsIs}
 use Rattle.tables.specs.Paths.{columnOf, shortOf, stepsOf, parsePath, pathFields}
 use Rattle.gfa_spec.proofs.Parts.{part-first, length-part}
-use Rattle.gfa_spec.proofs.Entries.{orientation-accepted}
 use Rattle.scan.proofs.LineEnds as ends
 use Rattle.work.proofs.Rows.{only-none, each-none}
 use Rattle.scan.proofs.SameNames.{one-byte}
-use Rattle.gfa_spec.proofs.Steps.{by-orientation}
 
 -- ---- answers
 
@@ -47,26 +45,25 @@ module _ {text work work' : List ℕ} {base size : ℕ} {r : Read (List Step)} {
 -- ---- orientations
 
 module _ (text : List ℕ) (at size n : ℕ) (h : at + size ≤ length text) where
-  pub orientation-empty : size ≡ 0 → parseOrientation n (part at size text) ≡ refused n
+  pub orientation-empty : size ≡ 0 → Refused n ≡ checkedOf (parseOrientation n (part at size text))
   unfolding parseOrientation part
   orientation-empty e = rw e
 
-  pub orientation-long : (size ≡ 0 → ⊥) → (size ≡ 1 → ⊥) → parseOrientation n (part at size text) ≡ refused (n + 1)
+  pub orientation-long : 1 < size → Refused (n + 1) ≡ checkedOf (parseOrientation n (part at size text))
   unfolding parseOrientation
-  orientation-long e f = rw (part-first at size text (omega arith) h, part-first (suc at) (size - 1) text (omega arith) (omega arith), add-one)
+  orientation-long e = rw (part-first at size text (omega arith) h, part-first (suc at) (size - 1) text (omega arith) (omega arith), add-one)
 
-  pub orientation-is : {r : Bool} → size ≡ 1 → r ≡ isOrientation (getD text at 0) → r ≡ true → parseOrientation n (part at size text) ≡ accepted (getD text at 0)
-  unfolding parseOrientation
-  orientation-is e o t = rw (one-byte text at size h e, sym o ∙ t)
+  module _ (some : size ≡ 0 → ⊥) (one : size ≤ 1) {r : Bool} (o : r ≡ isOrientation (getD text at 0)) where
+    only-byte : part at size text ≡ getD text at 0 ∷ []
+    only-byte = one-byte text at size h (omega arith)
 
-  pub orientation-not : {r : Bool} → size ≡ 1 → r ≡ isOrientation (getD text at 0) → r ≡ false → parseOrientation n (part at size text) ≡ refused (n + 1)
-  unfolding parseOrientation
-  orientation-not e o t = rw (one-byte text at size h e, sym o ∙ t, add-one)
+    pub orientation-is : r ≡ true → Value (getD text at 0) ≡ checkedOf (parseOrientation n (part at size text))
+    unfolding parseOrientation
+    orientation-is t = rw (only-byte, sym o ∙ t)
 
--- an orientation that is read is a small number
-pub orientation-small : (n : ℕ) (s : List ℕ) {c : Checked} {b : ℕ} → c ≡ checkedOf (parseOrientation n s) → c ≡ Value b → b < 256
-orientation-small n s {b = b} e f =
-    by-orientation (λ o. o < 256) (omega arith) (omega arith) b (orientation-accepted n s b (checked-value (parseOrientation n s) e f) .1)
+    pub orientation-not : r ≡ false → Refused (n + 1) ≡ checkedOf (parseOrientation n (part at size text))
+    unfolding parseOrientation
+    orientation-not t = rw (only-byte, sym o ∙ t, add-one)
 
 -- ---- the steps of a P or W line
 

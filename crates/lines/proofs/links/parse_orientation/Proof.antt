@@ -1,20 +1,18 @@
 -- `lines::links::parse_orientation` meets its contract, by the field's length and its byte. Assumes nothing.
 use native.Mathlib.Omega.{arith}
-use mathlib.Core.Path.{ap, sym}
 use borrow.Author.Needs.{needs}
 use Rattle.steps.proofs.StepFields.{orientation-empty, orientation-long, orientation-is, orientation-not}
 use Rattle.lines.proofs.links.parse_orientation.Statement.{statement}
 use Rattle.lines.proofs.links.parse_orientation.Tie as tie
-use Rattle.steps.specs.Checked.{checkedOf}
 
 returns : tie.Need-returns
-returns c = sym (ap checkedOf (orientation-empty _ _ _ _ (c .before .before .pre .0) (c .if1 .taken)))
+returns c = search orientation-empty
 
 add-t7 : tie.Need-add-t7
 add-t7 c = search needs
 
 returns-2 : tie.Need-returns-2
-returns-2 c = sym (ap checkedOf (orientation-long _ _ _ _ (c .before .before .before .pre .0) (c .before .if1 .left) (c .if2 .taken)))
+returns-2 c = search orientation-long
 
 shared-slice-read-b : tie.Need-shared-slice-read-b
 shared-slice-read-b c = search needs
@@ -26,13 +24,13 @@ cast-t11 : tie.Need-cast-t11
 cast-t11 c = omega (arith, c .before .before .before .before .before .shared-slice-known .given (c .before .before .before .before .before .before .args .at))
 
 returns-3 : tie.Need-returns-3
-returns-3 c = sym (ap checkedOf (orientation-is _ _ _ _ (c .before .before .before .before .before .before .pre .0) (omega arith) (c .before .is-orientation .ensures) (c .if3 .taken)))
+returns-3 c = search orientation-is
 
 add-t12 : tie.Need-add-t12
 add-t12 c = search needs
 
 returns-4 : tie.Need-returns-4
-returns-4 c = sym (ap checkedOf (orientation-not _ _ _ _ (c .before .before .before .before .before .before .pre .0) (omega arith) (c .before .is-orientation .ensures) (c .if3 .left)))
+returns-4 c = search orientation-not
 
 pub parse-orientation-spec : {M : Type 1} → statement M
 parse-orientation-spec =
