@@ -15,6 +15,7 @@ use Rattle.tables.specs.declared.segments.Found as search-found
 use Rattle.tables.specs.declared.segments.Found.the-variants as found
 use Rattle.scan.specs.declared.places.Field.{Field}
 use Rattle.scan.specs.declared.places.Field.the-variants.{Found, Missing}
+use Rattle.lines.specs.declared.sort.Sort.{Sort}
 use Rattle.lines.specs.declared.sort.Sort.the-variants as sort
 use Rattle.tables.specs.declared.tables.Bases.{Bases}
 use Rattle.tables.specs.declared.tables.Counts.{Counts}
@@ -78,6 +79,10 @@ path-steps text work b k first count e = omega (arith, ap length e, rows-length 
 
 -- ---- raw lines
 
+-- the sort that was found
+pub sorted : {text : List ℕ} {start size : ℕ} {r k : Sort} → SortIs text start size r → r ≡ k → SortIs text start size k
+sorted s e = rw e at s
+
 module _ {text work : List ℕ} {b : Bases} {n : Counts} {start size : ℕ} (y : Ready text work b n start size) where
   -- a raw line changes no table
   raw-added : (r : Record) → parseLine (idsOf (segmentsAt text work (b .segs) (n .segs))) (partAt text start size) ≡ accepted (entryOf text work b r) →
@@ -100,21 +105,22 @@ module _ {text work : List ℕ} {b : Bases} {n : Counts} {start size : ℕ} (y :
             };
       }
 
-  pub raw-blank : SortIs text start size sort.Blank → AddedIs text work work b n start size (Rows (Blank (record { start = start; length = size })) (oneMore n 0 0 0 0))
-  unfolding readAs entryOf partAt
-  raw-blank s = raw-added (Blank (record { start = start; length = size })) (s .is _) refl refl refl (y .inside)
+  module _ {r : Sort} {m : Counts} (s : SortIs text start size r) (more : m ≡ oneMore n 0 0 0 0) where
+    pub raw-blank : r ≡ sort.Blank → AddedIs text work work b n start size (Rows (Blank (record { start = start; length = size })) m)
+    unfolding readAs entryOf partAt
+    raw-blank e = rw more (raw-added (Blank (record { start = start; length = size })) (sorted s e .is _) refl refl refl (y .inside))
 
-  pub raw-comment : SortIs text start size sort.Comment → AddedIs text work work b n start size (Rows (Comment (record { start = start; length = size })) (oneMore n 0 0 0 0))
-  unfolding readAs entryOf partAt
-  raw-comment s = raw-added (Comment (record { start = start; length = size })) (s .is _) refl refl refl (y .inside)
+    pub raw-comment : r ≡ sort.Comment → AddedIs text work work b n start size (Rows (Comment (record { start = start; length = size })) m)
+    unfolding readAs entryOf partAt
+    raw-comment e = rw more (raw-added (Comment (record { start = start; length = size })) (sorted s e .is _) refl refl refl (y .inside))
 
-  pub raw-header : SortIs text start size sort.Header → AddedIs text work work b n start size (Rows (Header (record { start = start; length = size })) (oneMore n 0 0 0 0))
-  unfolding readAs entryOf partAt
-  raw-header s = raw-added (Header (record { start = start; length = size })) (s .is _) refl refl refl (y .inside)
+    pub raw-header : r ≡ sort.Header → AddedIs text work work b n start size (Rows (Header (record { start = start; length = size })) m)
+    unfolding readAs entryOf partAt
+    raw-header e = rw more (raw-added (Header (record { start = start; length = size })) (sorted s e .is _) refl refl refl (y .inside))
 
-  pub raw-other : SortIs text start size sort.Other → AddedIs text work work b n start size (Rows (Other (record { start = start; length = size })) (oneMore n 0 0 0 0))
-  unfolding readAs entryOf partAt
-  raw-other s = raw-added (Other (record { start = start; length = size })) (s .is _) refl refl refl (y .inside)
+    pub raw-other : r ≡ sort.Other → AddedIs text work work b n start size (Rows (Other (record { start = start; length = size })) m)
+    unfolding readAs entryOf partAt
+    raw-other e = rw more (raw-added (Other (record { start = start; length = size })) (sorted s e .is _) refl refl refl (y .inside))
 
 -- ---- S lines
 
@@ -394,8 +400,8 @@ module _ {middle work' : List ℕ} (text : List ℕ) (b : Bases) (n m : Counts) 
 
 -- what is said of a line, by the cases
 module _ {text work middle : List ℕ} {b : Bases} {n : Counts} {start size : ℕ} {a : Added} (y : Ready text work b n start size) (h : AddedIs text work middle b n start size a) where
-  pub line-refused : {k : ℕ} {work' : List ℕ} → a ≡ Refused k → LineRead text work work' b n start size (Refused k)
-  line-refused e = record { says = rw e at (h .says); held = tt }
+  pub line-refused : {k : ℕ} {work' : List ℕ} → a ≡ Refused k → LineRead text work work' b n start size a
+  line-refused e = rw e (record { says = rw e at (h .says); held = tt })
 
   -- a record whose steps are in the table leaves room
   entered-room : {r : Record} {m : Counts} → Entered text work middle b n start size r m → b .steps + 3 * m .steps ≤ length middle

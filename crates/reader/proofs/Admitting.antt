@@ -1,5 +1,6 @@
 -- Refusals 1 to 4, then what the lines say. Assumes nothing.
 use Prim.Native.Nat.{ℕ, _+_, _*_, _≤_, _<_}
+use native.Mathlib.Omega.{arith}
 use mathlib.Core.List.{List}
 use mathlib.Core.Path.{_≡_, _∙_}
 use lib.ListN.{length}
@@ -46,8 +47,15 @@ unfolding input ofBytes
 admitted {text} {words} a = rw (le-ltb 1048576 (length text) (a .short), a .clean, le-ltb words (4 * length text + 64) (a .room))
 
 -- what the answer says, by its cases
-pub is-admitted : {text : List ℕ} {words : ℕ} {r : Admission} → AdmissionIs text words r → r ≡ Admitted → Admits text words
-is-admitted h e = rw e at (h .says)
+module _ {text : List ℕ} {words : ℕ} {r : Admission} (h : AdmissionIs text words r) (e : r ≡ Admitted) where
+  is-admitted : Admits text words
+  is-admitted = rw e at (h .says)
+
+  pub admitted-short : length text ≤ 1048576
+  admitted-short = is-admitted .short
+
+  pub admitted-room : 4 * length text + 28 ≤ words
+  admitted-room = omega (arith, is-admitted .room)
 
 -- ---- the lines
 

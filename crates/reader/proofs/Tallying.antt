@@ -4,9 +4,10 @@ use native.Mathlib.Nat.{zero-add}
 use native.Mathlib.Omega.{arith}
 use mathlib.Core.List.{List, [], _∷_}
 use mathlib.Core.Logic.{_⊎_, inl, inr}
-use mathlib.Core.Path.{_≡_, refl}
+use mathlib.Core.Path.{_≡_, refl, _∙_}
 use lib.ListN.{length, getD}
 use borrow.Author.Tests.{ne-eqb}
+use Rattle.tables.specs.declared.tables.Bases.{Bases}
 use Rattle.tables.specs.declared.tables.Counts.{Counts}
 use Rattle.gfa_spec.specs.Reading as reading
 use Rattle.scan.specs.Places.{linesAt, partAt, NextLineIs}
@@ -26,34 +27,45 @@ one-byte f p q [] k = p
 one-byte f p q (x ∷ []) k = q x
 one-byte f p q (x ∷ (y ∷ ys)) k = absurd (omega arith)
 
-module _ (text : List ℕ) (n : Counts) (start size : ℕ) (h : start + size ≤ length text) where
-  pub tally-short : size < 2 → LineTally text start size n (oneMore n 0 0 0 0)
+module _ {text : List ℕ} {n m : Counts} {start size : ℕ} (h : start + size ≤ length text) where
+  pub tally-short : size < 2 → m ≡ oneMore n 0 0 0 0 → LineTally text start size n m
   unfolding segsIn linksIn pathsIn starting
-  tally-short s =
+  tally-short s e =
       let line = part start size text in
       let short : length line < 2 = omega (arith, length-part start size text h) in
       record {
-        is = rw (one-byte segsIn refl (λ x. refl) line short, one-byte linksIn refl (λ x. refl) line short, one-byte pathsIn refl (λ x. refl) line short);
+        is = e ∙ rw (one-byte segsIn refl (λ x. refl) line short, one-byte linksIn refl (λ x. refl) line short, one-byte pathsIn refl (λ x. refl) line short);
       }
 
   module _ (long : 2 ≤ size) where
-    pub tally-segment : getD text start 0 ≡ 83 → LineTally text start size n (oneMore n 1 0 0 0)
+    pub tally-segment : getD text start 0 ≡ 83 → m ≡ oneMore n 1 0 0 0 → LineTally text start size n m
     unfolding segsIn linksIn pathsIn starting
-    tally-segment e = record { is = rw (two-bytes text start size 83 h long e) }
+    tally-segment b e = record { is = e ∙ rw (two-bytes text start size 83 h long b) }
 
-    pub tally-link : getD text start 0 ≡ 76 → LineTally text start size n (oneMore n 0 1 0 0)
+    pub tally-link : getD text start 0 ≡ 76 → m ≡ oneMore n 0 1 0 0 → LineTally text start size n m
     unfolding segsIn linksIn pathsIn starting
-    tally-link e = record { is = rw (two-bytes text start size 76 h long e) }
+    tally-link b e = record { is = e ∙ rw (two-bytes text start size 76 h long b) }
 
-    pub tally-path : (getD text start 0 ≡ 80) ⊎ (getD text start 0 ≡ 87) → LineTally text start size n (oneMore n 0 0 1 0)
+    pub tally-path : (getD text start 0 ≡ 80) ⊎ (getD text start 0 ≡ 87) → m ≡ oneMore n 0 0 1 0 → LineTally text start size n m
     unfolding segsIn linksIn pathsIn starting
-    tally-path (inl e) = record { is = rw (two-bytes text start size 80 h long e) }
-    tally-path (inr e) = record { is = rw (two-bytes text start size 87 h long e) }
+    tally-path (inl b) e = record { is = e ∙ rw (two-bytes text start size 80 h long b) }
+    tally-path (inr b) e = record { is = e ∙ rw (two-bytes text start size 87 h long b) }
 
-    pub tally-none : (getD text start 0 ≡ 83 → ⊥) → (getD text start 0 ≡ 76 → ⊥) → (getD text start 0 ≡ 80 → ⊥) → (getD text start 0 ≡ 87 → ⊥) →
-        LineTally text start size n (oneMore n 0 0 0 0)
+    pub tally-none : (getD text start 0 ≡ 83 → ⊥) → (getD text start 0 ≡ 76 → ⊥) → ((getD text start 0 ≡ 80) ⊎ (getD text start 0 ≡ 87) → ⊥) →
+        m ≡ oneMore n 0 0 0 0 → LineTally text start size n m
     unfolding segsIn linksIn pathsIn starting
-    tally-none a b c d = record { is = rw (two-bytes text start size _ h long refl, ne-eqb _ _ a, ne-eqb _ _ b, ne-eqb _ _ c, ne-eqb _ _ d) }
+    tally-none a b c e =
+        record {
+          is =
+              e
+              ∙ rw (
+                two-bytes text start size _ h long refl,
+                ne-eqb _ _ a,
+                ne-eqb _ _ b,
+                ne-eqb _ _ (λ p. c (inl p)),
+                ne-eqb _ _ (λ w. c (inr w)),
+              );
+        }
 
 -- ---- all lines
 
@@ -108,5 +120,5 @@ module _ (text : List ℕ) {t : Counts} (e : TallyIs (reading.lines text) t) (h 
   tally-few = omega (arith, lines-sum (reading.lines text), weight-text text, e .lines, e .segs, e .links, e .paths)
 
   -- they fit into four words for each byte and 28 more
-  pub tally-roomy : {work : List ℕ} → 4 * length text + 28 ≤ length work → Roomy text work (basesFor t)
-  tally-roomy r = omega (arith, tables-fit text, e .lines, e .segs, e .links, e .paths)
+  pub tally-roomy : {work : List ℕ} {b : Bases} → b ≡ basesFor t → 4 * length text + 28 ≤ length work → Roomy text work b
+  tally-roomy q r = rw q (omega (arith, tables-fit text, e .lines, e .segs, e .links, e .paths))

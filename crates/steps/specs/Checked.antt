@@ -8,8 +8,3 @@ use Rattle.gfa_spec.specs.Reading.{Read, refused, accepted}
 abbrev pub checkedOf : Read ℕ → Checked
 checkedOf (refused k) = checked.Refused k
 checkedOf (accepted n) = checked.Value n
-
--- the number of a value's refusal, 0 where there is none
-abbrev pub refusalIn : Checked → ℕ
-refusalIn (checked.Value n) = 0
-refusalIn (checked.Refused k) = k

@@ -1,5 +1,4 @@
 -- `reader::counting::count_line` meets its contract, by the line's first byte. Assumes nothing.
-use mathlib.Core.Logic.{inl, inr}
 use borrow.Author.Needs.{needs}
 use Rattle.reader.proofs.Tallying.{tally-short, tally-segment, tally-link, tally-path, tally-none}
 use Rattle.reader.proofs.counting.count_line.Statement.{statement}
@@ -9,7 +8,7 @@ one-more-requires : tie.Need-one-more-requires
 one-more-requires c κs = search needs
 
 returns : tie.Need-returns
-returns c = rw (c .one-more .ensures) (tally-short _ _ _ _ (c .before .before .before .pre .0) (c .before .if1 .taken))
+returns c = search tally-short
 
 shared-slice-read-first : tie.Need-shared-slice-read-first
 shared-slice-read-first c = search needs
@@ -27,16 +26,16 @@ one-more-requires-5 : tie.Need-one-more-requires-5
 one-more-requires-5 c κs = search needs
 
 returns-2 : tie.Need-returns-2
-returns-2 c = rw (c .one-more2 .ensures) (tally-segment _ _ _ _ (c .before .before .before .before .before .pre .0) (c .before .before .before .if1 .left) (c .before .match .keys1))
+returns-2 c = search tally-segment
 
 returns-3 : tie.Need-returns-3
-returns-3 c = rw (c .one-more3 .ensures) (tally-link _ _ _ _ (c .before .before .before .before .before .pre .0) (c .before .before .before .if1 .left) (c .before .match .keys2))
+returns-3 c = search tally-link
 
 returns-4 : tie.Need-returns-4
-returns-4 c = rw (c .one-more4 .ensures) (tally-path _ _ _ _ (c .before .before .before .before .before .pre .0) (c .before .before .before .if1 .left) (c .before .match .keys3))
+returns-4 c = search tally-path
 
 returns-5 : tie.Need-returns-5
-returns-5 c = rw (c .one-more5 .ensures) (tally-none _ _ _ _ (c .before .before .before .before .before .pre .0) (c .before .before .before .if1 .left) (c .before .match .rest .0 .0 .1) (c .before .match .rest .0 .1) (λ e. c .before .match .rest .1 (inl e)) (λ e. c .before .match .rest .1 (inr e)))
+returns-5 c = search tally-none
 
 pub count-line-spec : {M : Type 1} → statement M
 count-line-spec =

@@ -13,22 +13,22 @@ abbrev μ-loop : tie.MeasureT-loop
 μ-loop text at₀ n₀ at n = length text - at
 
 loop-holds : tie.Need-loop-holds Inv-loop μ-loop
-loop-holds c = counting-start _
+loop-holds c = search counting-start
 
 next-line-requires : tie.Need-next-line-requires Inv-loop μ-loop
 next-line-requires c κs = omega arith
 
 count-line-requires : tie.Need-count-line-requires Inv-loop μ-loop
-count-line-requires c κs = (omega arith, counting-few (c .before .before .loop .inv) (c .before .before .before .before .pre))
+count-line-requires c κs = (omega arith, search counting-few)
 
 loop-less : tie.Need-loop-less Inv-loop μ-loop
 loop-less c = omega arith
 
 loop-again : tie.Need-loop-again Inv-loop μ-loop
-loop-again c = counting-more (c .before .before .before .loop .inv) (c .before .next-line .ensures) (c .count-line .ensures)
+loop-again c = search counting-more
 
 returns : tie.Need-returns Inv-loop μ-loop
-returns c = counting-end (c .before .loop .inv) (c .loop-test .left)
+returns c = search counting-end
 
 pub count-text-spec : {M : Type 1} → statement M
 count-text-spec =

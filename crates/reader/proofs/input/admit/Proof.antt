@@ -8,7 +8,7 @@ refused-requires : tie.Need-refused-requires
 refused-requires c κs = search needs
 
 returns : tie.Need-returns
-returns c = admit-long (c .before .if1 .taken) (c .refused .ensures)
+returns c = search admit-long
 
 bad-byte-requires : tie.Need-bad-byte-requires
 bad-byte-requires c κs = search needs
@@ -20,7 +20,7 @@ refused-requires-2 : tie.Need-refused-requires-2
 refused-requires-2 c κs = search needs
 
 returns-2 : tie.Need-returns-2
-returns-2 c = admit-bad (c .before .before .before .before .before .if1 .left) (c .before .before .before .before .bad-byte .ensures) (c .before .before .bad .given .1) (c .refused2 .ensures)
+returns-2 c = search admit-bad
 
 enum-told : tie.Need-enum-told
 enum-told c = search needs
@@ -35,10 +35,10 @@ refused-requires-3 : tie.Need-refused-requires-3
 refused-requires-3 c κs = search needs
 
 returns-3 : tie.Need-returns-3
-returns-3 c = admit-small (c .before .before .before .before .before .if1 .left) (c .before .before .before .before .bad-byte .ensures) (c .before .before .enum-told .given .1) (c .before .if2 .taken) (c .refused3 .ensures)
+returns-3 c = search admit-small
 
 returns-4 : tie.Need-returns-4
-returns-4 c = admit-all (c .before .before .before .before .if1 .left) (c .before .before .before .bad-byte .ensures) (c .before .enum-told .given .1) (c .if2 .left)
+returns-4 c = search admit-all
 
 pub admit-spec : {M : Type 1} → statement M
 admit-spec =

@@ -13,40 +13,40 @@ abbrev μ-loop : tie.MeasureT-loop
 μ-loop text i₀ i = length text - i
 
 loop-holds : tie.Need-loop-holds Inv-loop μ-loop
-loop-holds c = searching-start _
+loop-holds c = search searching-start
 
 shared-slice-read-b : tie.Need-shared-slice-read-b Inv-loop μ-loop
 shared-slice-read-b c = omega arith
 
 returns : tie.Need-returns Inv-loop μ-loop
-returns c = searching-high (c .before .before .before .loop .inv) (c .before .before .loop-test .taken) (c .if1 .taken)
+returns c = search searching-high
 
 add-next : tie.Need-add-next Inv-loop μ-loop
 add-next c = omega arith
 
 returns-2 : tie.Need-returns-2 Inv-loop μ-loop
-returns-2 c = searching-last (c .before .before .before .before .before .loop .inv) (c .before .before .before .before .loop-test .taken) (c .before .if2 .taken) (c .if3 .taken)
+returns-2 c = search searching-last
 
 shared-slice-read-if4 : tie.Need-shared-slice-read-if4 Inv-loop μ-loop
 shared-slice-read-if4 c = omega arith
 
 returns-3 : tie.Need-returns-3 Inv-loop μ-loop
-returns-3 c = searching-bare (c .before .before .before .before .before .before .before .loop .inv) (c .before .before .before .before .before .before .loop-test .taken) (c .before .before .before .if2 .taken) (c .before .before .if3 .left) (c .if4 .taken)
+returns-3 c = search searching-bare
 
 loop-less : tie.Need-loop-less Inv-loop μ-loop
 loop-less c = omega arith
 
 loop-again : tie.Need-loop-again Inv-loop μ-loop
-loop-again c = searching-feed (c .before .before .before .before .before .before .before .loop .inv) (c .before .before .before .before .before .before .loop-test .taken) (c .before .before .before .if2 .taken) (c .before .before .if3 .left) (c .if4 .left)
+loop-again c = search searching-feed
 
 loop-less-2 : tie.Need-loop-less-2 Inv-loop μ-loop
 loop-less-2 c = omega arith
 
 loop-again-2 : tie.Need-loop-again-2 Inv-loop μ-loop
-loop-again-2 c = searching-more (c .before .before .before .before .loop .inv) (c .before .before .before .loop-test .taken) (c .before .if1 .left) (c .if2 .left)
+loop-again-2 c = search searching-more
 
 returns-4 : tie.Need-returns-4 Inv-loop μ-loop
-returns-4 c = searching-end (c .before .loop .inv) (c .loop-test .left)
+returns-4 c = search searching-end
 
 pub bad-byte-spec : {M : Type 1} → statement M
 bad-byte-spec =

@@ -1,7 +1,6 @@
 -- `reader::input::parse_gfa` meets its contract: refusals 1 to 4, and then what the lines say. Assumes nothing.
-use native.Mathlib.Omega.{arith}
 use borrow.Author.Needs.{needs}
-use Rattle.reader.proofs.Admitting.{is-admitted, input-refused, input-read}
+use Rattle.reader.proofs.Admitting.{admitted-short, admitted-room, input-refused, input-read}
 use Rattle.reader.proofs.input.parse_gfa.Statement.{statement}
 use Rattle.reader.proofs.input.parse_gfa.Tie as tie
 
@@ -12,19 +11,19 @@ enum-known-admission : tie.Need-enum-known-admission
 enum-known-admission c = search needs
 
 returns : tie.Need-returns
-returns c = input-refused (c .before .before .before .admit .ensures) (c .before .admission .given .1)
+returns c = search input-refused
 
 enum-told : tie.Need-enum-told
 enum-told c = search needs
 
 read-text-requires : tie.Need-read-text-requires
-read-text-requires c κs = let a = is-admitted (c .before .before .before .admit .ensures) (c .before .enum-told .given .1) in (a .short, omega (arith, a .room))
+read-text-requires c κs = (search admitted-short, search admitted-room)
 
 same-length : tie.Need-same-length
 same-length c = search needs
 
 returns-2 : tie.Need-returns-2
-returns-2 c = input-read (c .before .before .before .before .before .before .admit .ensures) (c .before .before .before .before .enum-told .given .1) (c .before .before .read-text .ensures)
+returns-2 c = search input-read
 
 pub parse-gfa-spec : {M : Type 1} → statement M
 parse-gfa-spec =

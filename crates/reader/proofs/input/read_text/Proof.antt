@@ -12,7 +12,7 @@ bases-of-requires : tie.Need-bases-of-requires
 bases-of-requires c κs = tally-few _ (c .count-text .ensures) (c .before .before .before .pre .0)
 
 read-lines-requires : tie.Need-read-lines-requires
-read-lines-requires c κs = rw (c .before .bases-of .ensures) (tally-roomy _ (c .before .before .count-text .ensures) (c .before .before .before .before .before .pre .0) (c .before .before .before .before .before .pre .1))
+read-lines-requires c κs = search tally-roomy
 
 enum-known-answer : tie.Need-enum-known-answer
 enum-known-answer c = search needs
@@ -27,13 +27,13 @@ same-length : tie.Need-same-length
 same-length c = search needs
 
 returns : tie.Need-returns
-returns c = text-refused (c .before .before .before .before .before .read-lines .ensures) (c .before .enum-told .given .1) (c .refused-line .ensures)
+returns c = search text-refused
 
 same-length-2 : tie.Need-same-length-2
 same-length-2 c = search needs
 
 returns-2 : tie.Need-returns-2
-returns-2 c = text-read (c .before .before .before .before .before .read-lines .ensures) (c .before .answer .given .1)
+returns-2 c = search text-read
 
 pub read-text-spec : {M : Type 1} → statement M
 read-text-spec =

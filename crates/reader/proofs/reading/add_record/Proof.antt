@@ -1,6 +1,6 @@
 -- `reader::reading::add_record` meets its contract, by the sort of the line. Assumes nothing.
 use borrow.Author.Needs.{needs}
-use Rattle.lines.proofs.Adding.{raw-blank, raw-comment, raw-header, raw-other}
+use Rattle.lines.proofs.Adding.{sorted, raw-blank, raw-comment, raw-header, raw-other}
 use Rattle.reader.proofs.reading.add_record.Statement.{statement}
 use Rattle.reader.proofs.reading.add_record.Tie as tie
 
@@ -20,19 +20,19 @@ enum-told : tie.Need-enum-told
 enum-told c = search needs
 
 add-segment-requires : tie.Need-add-segment-requires
-add-segment-requires c κs = (c .before .before .before .before .before .before .before .pre, rw (c .before .enum-told .given .1) at (c .before .before .before .before .sort-of .ensures))
+add-segment-requires c κs = (search needs, search sorted)
 
 enum-told-2 : tie.Need-enum-told-2
 enum-told-2 c = search needs
 
 add-link-requires : tie.Need-add-link-requires
-add-link-requires c κs = (c .before .before .before .before .before .before .before .pre, rw (c .before .enum-told2 .given .1) at (c .before .before .before .before .sort-of .ensures))
+add-link-requires c κs = (search needs, search sorted)
 
 enum-known-sort : tie.Need-enum-known-sort
 enum-known-sort c = search needs
 
 add-path-requires : tie.Need-add-path-requires
-add-path-requires c κs = (c .before .before .before .before .before .before .before .before .pre, rw (c .before .before .sort .given .1) at (c .before .before .before .before .before .sort-of .ensures))
+add-path-requires c κs = (search needs, search sorted)
 
 enum-told-3 : tie.Need-enum-told-3
 enum-told-3 c = search needs
@@ -65,16 +65,16 @@ returns-3 : tie.Need-returns-3
 returns-3 c = search needs
 
 returns-4 : tie.Need-returns-4
-returns-4 c = rw (c .before .before .one-more .ensures) (raw-blank (c .before .before .before .before .before .before .pre) (rw (c .enum-told3 .given .1) at (c .before .before .before .sort-of .ensures)))
+returns-4 c = search raw-blank
 
 returns-5 : tie.Need-returns-5
-returns-5 c = rw (c .before .before .one-more .ensures) (raw-comment (c .before .before .before .before .before .before .pre) (rw (c .enum-told4 .given .1) at (c .before .before .before .sort-of .ensures)))
+returns-5 c = search raw-comment
 
 returns-6 : tie.Need-returns-6
-returns-6 c = rw (c .before .before .one-more .ensures) (raw-header (c .before .before .before .before .before .before .pre) (rw (c .enum-told5 .given .1) at (c .before .before .before .sort-of .ensures)))
+returns-6 c = search raw-header
 
 returns-7 : tie.Need-returns-7
-returns-7 c = rw (c .before .before .one-more .ensures) (raw-other (c .before .before .before .before .before .before .pre) (rw (c .enum-told6 .given .1) at (c .before .before .before .sort-of .ensures)))
+returns-7 c = search raw-other
 
 pub add-record-spec : {M : Type 1} → statement M
 add-record-spec =

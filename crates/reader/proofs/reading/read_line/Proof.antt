@@ -18,16 +18,16 @@ same-length : tie.Need-same-length
 same-length c = search needs
 
 returns : tie.Need-returns
-returns c = rw (c .enum-told .given .1) (line-refused (c .before .before .before .before .before .before .before .before .pre) (c .before .before .before .before .add-record .ensures) (c .enum-told .given .1))
+returns c = search line-refused
 
 put-line-requires : tie.Need-put-line-requires
-put-line-requires c κs = omega (arith, c .before .before .before .before .before .before .before .before .before .before .pre)
+put-line-requires c κs = search needs
 
 same-length-2 : tie.Need-same-length-2
 same-length-2 c = search needs
 
 returns-2 : tie.Need-returns-2
-returns-2 c = line-entered (c .before .before .before .before .before .before .before .before .before .before .before .before .before .pre) (c .before .before .before .before .before .before .before .before .before .add-record .ensures) (c .before .before .before .before .before .added .given .1) (c .before .before .put-line .ensures)
+returns-2 c = search line-entered
 
 pub read-line-spec : {M : Type 1} → statement M
 read-line-spec =

@@ -15,13 +15,13 @@ abbrev μ-loop : tie.MeasureT-loop
 μ-loop text work₀ b at₀ n₀ work at n = length text - at
 
 loop-holds : tie.Need-loop-holds Inv-loop μ-loop
-loop-holds c = progress-start (c .before .before .pre)
+loop-holds c = search progress-start
 
 next-line-requires : tie.Need-next-line-requires Inv-loop μ-loop
 next-line-requires c κs = omega arith
 
 read-line-requires : tie.Need-read-line-requires Inv-loop μ-loop
-read-line-requires c κs = progress-ready (c .before .before .before .loop .inv) (c .before .next-line .ensures)
+read-line-requires c κs = search progress-ready
 
 enum-known-added : tie.Need-enum-known-added Inv-loop μ-loop
 enum-known-added c = omega arith
@@ -39,19 +39,19 @@ same-length : tie.Need-same-length Inv-loop μ-loop
 same-length c = omega arith
 
 returns : tie.Need-returns Inv-loop μ-loop
-returns c = rw (c .before .refusal-of .ensures ∙ ap refusalOf (c .before .before .enum-told .given .1)) (progress-refused (c .before .before .before .before .before .before .before .before .before .before .loop .inv) (c .before .before .before .before .before .before .before .before .next-line .ensures) (c .before .before .before .before .before .before .read-line .ensures) (c .before .before .enum-told .given .1))
+returns c = search progress-refused
 
 loop-less : tie.Need-loop-less Inv-loop μ-loop
 loop-less c = omega arith
 
 loop-again : tie.Need-loop-again Inv-loop μ-loop
-loop-again c = progress-more (c .before .before .before .before .before .before .before .before .before .loop .inv) (c .before .before .before .before .before .before .before .next-line .ensures) (c .before .before .before .before .before .read-line .ensures) (c .before .added .given .1)
+loop-again c = search progress-more
 
 same-length-2 : tie.Need-same-length-2 Inv-loop μ-loop
 same-length-2 c = omega arith
 
 returns-2 : tie.Need-returns-2 Inv-loop μ-loop
-returns-2 c = progress-end (c .before .loop .inv) (c .loop-test .left)
+returns-2 c = search progress-end
 
 pub read-lines-spec : {M : Type 1} → statement M
 read-lines-spec =
