@@ -5,5 +5,4 @@ pub mod SegmentLines
 pub mod LinkLines
 pub mod PathLines
 pub mod Room
-pub mod Added
 pub mod Lines

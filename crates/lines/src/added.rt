@@ -1,6 +1,4 @@
 // What becomes of a line.
-ghost use mathlib.Core.Path.{_≡_};
-ghost use Rattle.lines.specs.Added.{refusalOf};
 use tables::entry::Record;
 use tables::tables::Counts;
 
@@ -8,14 +6,4 @@ use tables::tables::Counts;
 pub enum Added {
     Rows(Record, Counts),
     Refused(usize),
-}
-
-// The number of a line's refusal.
-pub fn refusal_of(a: Added) -> usize
-    ensures { λ r. ⌜ r ≡ refusalOf a ⌝ }
-{
-    match a {
-        Added::Rows(_, _) => 0,
-        Added::Refused(k) => k,
-    }
 }

@@ -19,7 +19,7 @@ use Rattle.reader.specs.declared.reading.Outcome.the-variants as outcome
 use Rattle.gfa_spec.specs.Reading.{parse}
 use Rattle.gfa_spec.specs.Calls.{plainly, onLine, atPlace, ofParsed, ofBytes, input}
 use Rattle.reader.specs.Outcomes.{OutcomeIs}
-use Rattle.reader.specs.Inputs.{BadIs, Admits, AdmissionIs, TextSays, TextIs, InputSays, InputIs, lineRefusal}
+use Rattle.reader.specs.Inputs.{BadIs, Admits, AdmissionIs, TextSays, TextIs, InputSays, InputIs}
 
 -- ---- whether the lines may be read
 
@@ -63,9 +63,10 @@ module _ {text before work : List ℕ} {b : Bases} {a : Outcome} (y : OutcomeIs 
   pub text-read : {n : Counts} → a ≡ outcome.Read n → TextIs text before work (answered.Tables b n)
   text-read e = record { says = rw e at (y .says) }
 
-  pub text-refused : {r : Input} {k line : ℕ} → a ≡ outcome.Refused k line → r ≡ answered.Refused (lineRefusal a) → TextIs text before work r
+  pub text-refused : {k line : ℕ} → a ≡ outcome.Refused k line →
+      TextIs text before work (answered.Refused (record { number = k; line = line; from = 0; length = 0 }))
   unfolding ofParsed onLine
-  text-refused e q = let z = rw e at (y .says) in rw (q, e) (record { says = rw (z .read) })
+  text-refused e = let z = rw e at (y .says) in record { says = rw (z .read) }
 
 -- ---- both
 

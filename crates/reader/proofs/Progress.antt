@@ -27,7 +27,6 @@ use Rattle.tables.specs.Paths.{pathAt, pathsAt, PathRow}
 use Rattle.tables.specs.Entries.{recordAt, entryOf, entryAt, entriesAt, Fits}
 use Rattle.lines.specs.Room.{segsIn, linksIn, pathsIn, spareIn, total}
 use Rattle.reader.specs.Outcomes.{Roomy, OutcomeIs}
-use Rattle.lines.specs.Added.{refusalOf}
 use Rattle.lines.specs.Lines.{Ready, segsOf, linksOf, pathsOf, NewRow, Entered, LineRead}
 use Rattle.reader.proofs.Following.{follow, follow-none, follow-snoc, follow-refused, follow-end, parse-accepted, parse-refused, ids-entry}
 use Rattle.scan.proofs.LineEnds.{no-lines-at, all-lines}
@@ -264,10 +263,10 @@ module _ {text first : List ℕ} {b : Bases} where
           }
 
       module _ {work' : List ℕ} {a : Added} (r : LineRead text work work' b n start size a) where
-        pub progress-refused : {j k : ℕ} → a ≡ Refused k → j ≡ refusalOf a → OutcomeIs text first work' b (outcome.Refused j (n .lines + 1))
-        progress-refused {k = k} e f =
+        pub progress-refused : {k : ℕ} → a ≡ Refused k → OutcomeIs text first work' b (outcome.Refused k (n .lines + 1))
+        progress-refused {k} e =
             let z = rw e at (r .says) in
-            rw (f, e) (record { says = record { read = p .whole ∙ rw (l .first, parse-refused (suc (n .lines)) _ _ _ k (z .read), follow-refused, add-one) } })
+            record { says = record { read = p .whole ∙ rw (l .first, parse-refused (suc (n .lines)) _ _ _ k (z .read), follow-refused, add-one) } }
 
         pub progress-more : {held : Record} {m : Counts} → a ≡ Rows held m → Progress text first work' b next m
         unfolding total partAt

@@ -13,8 +13,6 @@ use Rattle.reader.specs.declared.input.Admission.{Admission}
 use Rattle.reader.specs.declared.input.Admission.the-variants as admission
 use Rattle.reader.specs.declared.input.Input.{Input}
 use Rattle.reader.specs.declared.input.Input.the-variants as answered
-use Rattle.reader.specs.declared.reading.Outcome.{Outcome}
-use Rattle.reader.specs.declared.reading.Outcome.the-variants as outcome
 use Rattle.gfa_spec.specs.Calls as calls
 use Rattle.gfa_spec.specs.Calls.{atPlace, badByte, ofParsed, input}
 use Rattle.gfa_spec.specs.Reading.{parse}
@@ -49,11 +47,6 @@ AdmissionSays text words (admission.Refused r) = input text words ≡ calls.Inpu
 -- What the answer to the question says whether the lines may be read.
 pub record AdmissionIs (text : List ℕ) (words : ℕ) (r : Admission) : Type 0 where
   pub says : AdmissionSays text words r
-
--- the refusal of a line, all 0 where there is none
-abbrev pub lineRefusal : Outcome → Answer
-lineRefusal (outcome.Read n) = record { number = 0; line = 0; from = 0; length = 0 }
-lineRefusal (outcome.Refused k line) = record { number = k; line = line; from = 0; length = 0 }
 
 -- by the cases of the answer
 abbrev pub TextSays : List ℕ → List ℕ → List ℕ → Input → Type 0

@@ -2,8 +2,7 @@
 ghost use mathlib.Core.Path.{_≡_};
 ghost use Prim.Native.Nat.{_+_, _*_, _≤_};
 ghost use lib.ListN.{length};
-ghost use Rattle.gfa_spec.specs.Reading.{lines};
-ghost use Rattle.reader.specs.Inputs.{BadIs, AdmissionIs, TextIs, InputIs, lineRefusal};
+ghost use Rattle.reader.specs.Inputs.{BadIs, AdmissionIs, TextIs, InputIs};
 ghost use Rattle.reader.specs.Served.{refusedWith};
 use crate::answers::Answer;
 use crate::answers::plain;
@@ -85,21 +84,6 @@ pub fn admit(text: &[u8], words: usize) -> Admission
     Admission::Admitted
 }
 
-// The refusal of a line.
-fn refused_line(a: Outcome) -> Input
-    ensures { λ r. ⌜ r ≡ Input.Refused (lineRefusal a) ⌝ }
-{
-    match a {
-        Outcome::Read(_) => Input::Refused(plain(0, 0)),
-        Outcome::Refused(number, line) => Input::Refused(Answer {
-            number,
-            line,
-            from: 0,
-            length: 0,
-        }),
-    }
-}
-
 // Reads the lines of a text into tables: refusals 5 to 17. The work area, which may be a part of a larger one, has four words for each byte and
 // 28 more.
 pub fn read_text(text: &[u8], work: &mut [u32]) -> Input
@@ -108,10 +92,15 @@ pub fn read_text(text: &[u8], work: &mut [u32]) -> Input
 {
     let b = bases_of(count_text(text));
     let answer = read_lines(text, work, b);
-    let Outcome::Read(n) = answer else {
-        return refused_line(answer);
-    };
-    Input::Tables(b, n)
+    match answer {
+        Outcome::Read(n) => Input::Tables(b, n),
+        Outcome::Refused(number, line) => Input::Refused(Answer {
+            number,
+            line,
+            from: 0,
+            length: 0,
+        }),
+    }
 }
 
 // Reads a text into tables in the work area.

@@ -2,7 +2,6 @@
 ghost use Rattle.reader.specs.Outcomes.{Roomy, OutcomeIs};
 ghost use Rattle.lines.specs.Lines.{Ready, AddedIs, LineRead};
 use lines::added::Added;
-use lines::added::refusal_of;
 use lines::links::add_link;
 use lines::paths::add_path;
 use lines::segments::add_segment;
@@ -88,10 +87,10 @@ pub fn read_lines(text: &[u8], work: &mut [u32], b: Bases) -> Outcome
     while at < text.len() {
         let line = next_line(text, at);
         let added = read_line(text, work, b, n, line.start, line.length);
-        let Added::Rows(_, m) = added else {
-            return Outcome::Refused(refusal_of(added), n.lines + 1);
-        };
-        n = m;
+        match added {
+            Added::Refused(k) => return Outcome::Refused(k, n.lines + 1),
+            Added::Rows(_, m) => n = m,
+        }
         at = line.next;
     }
     Outcome::Read(n)

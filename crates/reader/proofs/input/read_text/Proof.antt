@@ -17,23 +17,20 @@ read-lines-requires c κs = search tally-roomy
 enum-known-answer : tie.Need-enum-known-answer
 enum-known-answer c = search needs
 
-enum-told : tie.Need-enum-told
-enum-told c = search needs
-
-refused-line-requires : tie.Need-refused-line-requires
-refused-line-requires c κs = search needs
+enum-known-answer-2 : tie.Need-enum-known-answer-2
+enum-known-answer-2 c = search needs
 
 same-length : tie.Need-same-length
 same-length c = search needs
 
 returns : tie.Need-returns
-returns c = search text-refused
+returns c = search text-read
 
 same-length-2 : tie.Need-same-length-2
 same-length-2 c = search needs
 
 returns-2 : tie.Need-returns-2
-returns-2 c = search text-read
+returns-2 c = search text-refused
 
 pub read-text-spec : {M : Type 1} → statement M
 read-text-spec =
@@ -43,8 +40,7 @@ read-text-spec =
     bases-of-requires
     read-lines-requires
     enum-known-answer
-    enum-told
-    refused-line-requires
+    enum-known-answer-2
     same-length
     returns
     same-length-2

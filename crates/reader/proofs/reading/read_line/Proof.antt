@@ -1,5 +1,4 @@
 -- `reader::reading::read_line` meets its contract: the line's entry is put behind its record. Assumes nothing.
-use native.Mathlib.Omega.{arith}
 use borrow.Author.Needs.{needs}
 use Rattle.lines.proofs.Adding.{line-refused, line-entered}
 use Rattle.reader.proofs.reading.read_line.Statement.{statement}

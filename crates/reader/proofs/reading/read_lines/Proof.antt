@@ -1,12 +1,10 @@
 -- `reader::reading::read_lines` meets its contract. The loop's invariant is the reader's state between two lines. Assumes nothing.
 use Prim.Native.Nat.{_-_}
 use native.Mathlib.Omega.{arith}
-use mathlib.Core.Path.{ap, _∙_}
 use lib.ListN.{length}
 use Rattle.reader.proofs.Progress.{Progress, progress-start, progress-ready, progress-refused, progress-more, progress-end}
 use Rattle.reader.proofs.reading.read_lines.Statement.{statement}
 use Rattle.reader.proofs.reading.read_lines.Tie as tie
-use Rattle.lines.specs.Added.{refusalOf}
 
 abbrev Inv-loop : tie.InvT-loop
 Inv-loop text work₀ b at₀ n₀ work at n = Progress text work₀ work b at n
@@ -26,12 +24,6 @@ read-line-requires c κs = search progress-ready
 enum-known-added : tie.Need-enum-known-added Inv-loop μ-loop
 enum-known-added c = omega arith
 
-enum-told : tie.Need-enum-told Inv-loop μ-loop
-enum-told c = omega arith
-
-refusal-of-requires : tie.Need-refusal-of-requires Inv-loop μ-loop
-refusal-of-requires c κs = omega arith
-
 add-t14 : tie.Need-add-t14 Inv-loop μ-loop
 add-t14 c = omega arith
 
@@ -40,6 +32,9 @@ same-length c = omega arith
 
 returns : tie.Need-returns Inv-loop μ-loop
 returns c = search progress-refused
+
+enum-known-added-2 : tie.Need-enum-known-added-2 Inv-loop μ-loop
+enum-known-added-2 c = omega arith
 
 loop-less : tie.Need-loop-less Inv-loop μ-loop
 loop-less c = omega arith
@@ -63,11 +58,10 @@ read-lines-spec =
     next-line-requires
     read-line-requires
     enum-known-added
-    enum-told
-    refusal-of-requires
     add-t14
     same-length
     returns
+    enum-known-added-2
     loop-less
     loop-again
     same-length-2
