@@ -1,5 +1,5 @@
 -- Laws of a line.
 pub mod LineSorts
-pub mod LinkEnds
+pub mod LineFields
 pub mod Room
 pub mod Adding

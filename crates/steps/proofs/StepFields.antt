@@ -17,7 +17,9 @@ use Rattle.work.specs.Rows.{rowsAt}
 use Rattle.steps.specs.Checked.{checkedOf}
 use Rattle.tables.specs.Steps.{stepsAt}
 use Rattle.steps.specs.StepFields.{StepsPut, StepsIs}
-use Rattle.tables.specs.Paths.{columnOf, shortOf, stepsOf, parsePath, pathFields}
+use Rattle.tables.specs.declared.kinds.PathKind.{PathKind}
+use Rattle.tables.specs.declared.kinds.PathKind.the-variants as kinds
+use Rattle.tables.specs.Paths.{kindIn, columnOf, shortOf, stepsOf, parsePath, pathFields}
 use Rattle.gfa_spec.proofs.Parts.{part-first, length-part}
 use Rattle.scan.proofs.LineEnds as ends
 use Rattle.work.proofs.Rows.{only-none, each-none}
@@ -57,9 +59,9 @@ module _ (text : List ℕ) (at size n : ℕ) (h : at + size ≤ length text) whe
     only-byte : part at size text ≡ getD text at 0 ∷ []
     only-byte = one-byte text at size h (omega arith)
 
-    pub orientation-is : r ≡ true → Value (getD text at 0) ≡ checkedOf (parseOrientation n (part at size text))
+    pub orientation-is : {v : ℕ} → r ≡ true → v ≡ getD text at 0 → Value v ≡ checkedOf (parseOrientation n (part at size text))
     unfolding parseOrientation
-    orientation-is t = rw (only-byte, sym o ∙ t)
+    orientation-is t e = rw (only-byte, sym o ∙ t, e)
 
     pub orientation-not : r ≡ false → Refused (n + 1) ≡ checkedOf (parseOrientation n (part at size text))
     unfolding parseOrientation
@@ -94,6 +96,18 @@ module _ {text : List ℕ} {start size : ℕ} {t : Bool} (i : StarIs text start 
       StepsIs text work work' base size (nonEmpty (walk start (part start size text) .steps)) c → StepsIs text work work' base size (parseWSteps (partAt text start size)) c
   unfolding parseWSteps partAt
   w-walk f h n p = rw (sym (i .answer) ∙ f, ends.nonEmpty (part start size text) (omega (arith, n, length-part start size text h))) p
+
+-- by the kind
+module _ {text work work' : List ℕ} {base size : ℕ} (start : ℕ) {kind : PathKind} {c : Checked} where
+  pub of-p-line : kind ≡ kinds.P → StepsIs text work work' base size (parsePSteps (partAt text start size)) c →
+      StepsIs text work work' base size (stepsOf (kindIn kind) (partAt text start size)) c
+  unfolding stepsOf
+  of-p-line e h = rw e h
+
+  pub of-w-line : kind ≡ kinds.W → StepsIs text work work' base size (parseWSteps (partAt text start size)) c →
+      StepsIs text work work' base size (stepsOf (kindIn kind) (partAt text start size)) c
+  unfolding stepsOf
+  of-w-line e h = rw e h
 
 -- ---- the line
 

@@ -96,9 +96,9 @@ module _ {text first : List ℕ} {base start size : ℕ} where
         }
 
     module _ {comma : ℕ} (f : FirstIs text 44 at (start + size) comma) (h : at ≤ start + size) {work' : List ℕ} {r : Checked} (i : ItemIs text work work' base n at comma r) where
-      pub stepping-bad : {k : ℕ} → r ≡ Refused k → StepsIs text first work' base size (parseItems (split 44 start (part start size text))) (Refused k)
+      pub stepping-bad : {k : ℕ} → r ≡ Refused k → StepsIs text first work' base size (parseItems (split 44 start (part start size text))) r
       unfolding addSteps then
-      stepping-bad e = let b = rw e at (i .says) in record { says = s .whole ∙ rw (items-first f h (s .inside), b .read) }
+      stepping-bad e = let b = rw e at (i .says) in rw e (record { says = s .whole ∙ rw (items-first f h (s .inside), b .read) })
 
       pub stepping-more : {m : ℕ} → r ≡ Value m → Stepping text first work' base start size (comma + 1) m
       stepping-more {m} e =

@@ -10,12 +10,13 @@ use mathlib.Core.Path.{_≡_, refl, sym, _∙_}
 use lib.Dec.{eqb}
 use lib.ListN.{length, getD}
 use lib.Seq.{sets, slice, slice-cons, slice-empty, length-slice, length-sets}
+use Rattle.steps.specs.declared.checked.Checked.the-variants.{Value, Refused}
 use Rattle.gfa_spec.specs.Bytes.{part, isEmpty}
 use Rattle.gfa_spec.specs.Reading.{Step, Read, refused, accepted, then, isOrientation, isMark, orientationOf, walk, nonEmpty}
 use Rattle.scan.specs.Places.{partAt}
 use Rattle.work.specs.Rows.{rowsAt, EachRow, span, Only}
 use Rattle.tables.specs.Steps.{stepsAt, StepRow}
-use Rattle.steps.specs.StepFields.{addSteps, MarkIs, StepsPut}
+use Rattle.steps.specs.StepFields.{addSteps, MarkIs, StepsIs}
 use Rattle.scan.proofs.Cutting.{part-slice, part-range}
 use Rattle.gfa_spec.proofs.Tests.{by-test}
 use Rattle.work.proofs.Rows.{only-none, only-put, only-kept, only-then, outside-less, each-none, each-more}
@@ -129,9 +130,9 @@ mark-orientation : (b : ℕ) → isOrientation (orientationOf b) ≡ true
 unfolding isOrientation orientationOf
 mark-orientation b = by-test (eqb b 62) (λ e. rw e) (λ e. rw e)
 
-pub mark-small : (b : ℕ) → orientationOf b < 4294967296
+pub mark-small : (b : ℕ) {o : ℕ} → o ≡ orientationOf b → o < 4294967296
 unfolding orientationOf
-mark-small b = by-test (eqb b 62) (λ e. rw e (omega arith)) (λ e. rw e (omega arith))
+mark-small b h = rw h (by-test (eqb b 62) (λ e. rw e (omega arith)) (λ e. rw e (omega arith)))
 
 -- The state before the mark at `at`: the walk's steps are those of the table, and then those that are left.
 pub record Walking (text first work : List ℕ) (base start size at n : ℕ) : Type 0 where
@@ -148,10 +149,10 @@ pub record Walking (text first work : List ℕ) (base start size at n : ℕ) : T
   pub only : Only (span base (base + 3 * n) ∷ []) first work
 
 -- a walk without a mark
-pub walking-none : {text : List ℕ} {start at : ℕ} (size : ℕ) → MarkIs text start (start + size) at → at ≡ start + size →
-    nonEmpty (walk start (part start size text) .steps) ≡ refused 16
+pub walking-none : {text work work' : List ℕ} {base start size at : ℕ} → MarkIs text start (start + size) at → at ≡ start + size →
+    StepsIs text work work' base size (nonEmpty (walk start (part start size text) .steps)) (Refused 16)
 unfolding nonEmpty
-walking-none {text} {start} size m e = rw (part-slice start size text, mark-at m .steps, e, walk-none)
+walking-none {text} {start = start} {size = size} m e = record { says = rw (part-slice start size text, mark-at m .steps, e, walk-none) }
 
 module _ {text first : List ℕ} {base start size : ℕ} (h : (start + size ≤ length text) × (length text ≤ 1048576) × (base + 3 * size + 3 ≤ length first)) where
   pub walking-start : {at : ℕ} → MarkIs text start (start + size) at → (at ≡ start + size → ⊥) → Walking text first first base start size at 0
@@ -173,16 +174,19 @@ module _ {text first : List ℕ} {base start size : ℕ} (h : (start + size ≤ 
       }
 
 module _ {text first work : List ℕ} {base start size at n : ℕ} (s : Walking text first work base start size at n) where
-  pub walking-end : start + size ≤ at → StepsPut text first work base size n (nonEmpty (walk start (part start size text) .steps))
+  pub walking-end : start + size ≤ at → StepsIs text first work base size (nonEmpty (walk start (part start size text) .steps)) (Value n)
   unfolding rest addSteps then
   walking-end h =
       let e : at ≡ start + size = omega (arith, s .high) in
       record {
-        read = s .whole ∙ rw (e, walk-none, append-nil);
-        few = omega (arith, s .few, s .high);
-        rows = s .rows;
-        long = s .long;
-        only = s .only;
+        says =
+            record {
+              read = s .whole ∙ rw (e, walk-none, append-nil);
+              few = omega (arith, s .few, s .high);
+              rows = s .rows;
+              long = s .long;
+              only = s .only;
+            };
       }
 
   module _ {next : ℕ} (l : at < start + size) (m : MarkIs text (at + 1) (start + size) next) where
@@ -201,17 +205,17 @@ module _ {text first work : List ℕ} {base start size at n : ℕ} (s : Walking 
     no-name e = rw (e, add-one, slice-empty)
 
     -- an empty last step, and another empty step
-    pub walking-last : next ≡ at + 1 → next ≡ start + size → nonEmpty (walk start (part start size text) .steps) ≡ refused 17
+    pub walking-last : {work' : List ℕ} → next ≡ at + 1 → next ≡ start + size → StepsIs text first work' base size (nonEmpty (walk start (part start size text) .steps)) (Refused 17)
     unfolding addSteps then
     walking-last e f =
         let z : walk next (slice next (start + size) text) .steps ≡ [] = rw (f, walk-none) in
-        s .whole ∙ rw (walk-step, z, rest-last step (no-name e))
+        record { says = s .whole ∙ rw (walk-step, z, rest-last step (no-name e)) }
 
-    pub walking-empty : next ≡ at + 1 → (next ≡ start + size → ⊥) → nonEmpty (walk start (part start size text) .steps) ≡ refused 15
+    pub walking-empty : {work' : List ℕ} → next ≡ at + 1 → (next ≡ start + size → ⊥) → StepsIs text first work' base size (nonEmpty (walk start (part start size text) .steps)) (Refused 15)
     unfolding addSteps then
     walking-empty e f =
         let k : next < start + size = omega (arith, m .high, f) in
-        s .whole ∙ rw (walk-step, walk-mark text next (start + size) k (s .inside) (m .mark k), rest-empty step _ _ (no-name e))
+        record { says = s .whole ∙ rw (walk-step, walk-mark text next (start + size) k (s .inside) (m .mark k), rest-empty step _ _ (no-name e)) }
 
     -- a step with a name is put into the table
     pub walking-more : {work' : List ℕ} {o : ℕ} → (next ≡ at + 1 → ⊥) → o ≡ orientationOf (getD text at 0) →

@@ -1,6 +1,6 @@
 // The steps of a P line, put into the step table.
 ghost use mathlib.Core.Path.{_≡_};
-ghost use Prim.Native.Nat.{_+_, _*_, _≤_};
+ghost use Prim.Native.Nat.{_+_, _*_, _≤_, _<_};
 ghost use lib.ListN.{length};
 ghost use Rattle.gfa_spec.specs.Reading.{isOrientation, parseItems, parsePSteps};
 ghost use Rattle.gfa_spec.specs.Bytes.{split, part};
@@ -18,6 +18,13 @@ pub fn is_orientation(b: u8) -> bool
     ensures { λ r. ⌜ r ≡ isOrientation b ⌝ }
 {
     b == 43 || b == 45
+}
+
+// A byte as a number.
+pub fn wide(b: u8) -> usize
+    ensures { λ r. ⌜ (r ≡ b) × (r < 256) ⌝ }
+{
+    b as usize
 }
 
 // Puts the item from `from` to `to` into the table at `base`, behind its `n` steps; an empty item is skipped.
@@ -48,7 +55,7 @@ pub fn read_item(
             start: from,
             size: last - from,
         },
-        mark: mark as usize,
+        mark: wide(mark),
     };
     put_step(work, base, n, step);
     Checked::Value(n + 1)

@@ -1,6 +1,6 @@
 -- `lines::columns::column` meets its contract: the field is there. Assumes nothing.
 use borrow.Author.Needs.{needs}
-use Rattle.lines.proofs.LinkEnds.{column-there}
+use Rattle.lines.proofs.LineFields.{column-there}
 use Rattle.lines.proofs.columns.column.Statement.{statement}
 use Rattle.lines.proofs.columns.column.Tie as tie
 use Rattle.scan.proofs.Fields.{found-at}

@@ -1,6 +1,6 @@
 -- `lines::links::end_of` meets its contract, by the orientation. Assumes nothing.
 use borrow.Author.Needs.{needs}
-use Rattle.lines.proofs.LinkEnds.{end-held, end-refused}
+use Rattle.lines.proofs.LineFields.{end-held, end-refused}
 use Rattle.lines.proofs.links.end_of.Statement.{statement}
 use Rattle.lines.proofs.links.end_of.Tie as tie
 

@@ -1,6 +1,6 @@
 -- `lines::links::link_fields` meets its contract, by the number of fields and by both orientations. Assumes nothing.
 use borrow.Author.Needs.{needs}
-use Rattle.lines.proofs.LinkEnds.{has-column, link-short, link-first, link-second, link-held}
+use Rattle.lines.proofs.LineFields.{has-column, link-short, link-first, link-second, link-held}
 use Rattle.lines.proofs.links.link_fields.Statement.{statement}
 use Rattle.lines.proofs.links.link_fields.Tie as tie
 

@@ -1,5 +1,4 @@
 -- `lines::links::parse_orientation` meets its contract, by the field's length and its byte. Assumes nothing.
-use native.Mathlib.Omega.{arith}
 use borrow.Author.Needs.{needs}
 use Rattle.steps.proofs.StepFields.{orientation-empty, orientation-long, orientation-is, orientation-not}
 use Rattle.lines.proofs.links.parse_orientation.Statement.{statement}
@@ -20,8 +19,8 @@ shared-slice-read-b c = search needs
 is-orientation-requires : tie.Need-is-orientation-requires
 is-orientation-requires c κs = search needs
 
-cast-t11 : tie.Need-cast-t11
-cast-t11 c = omega (arith, c .before .before .before .before .before .shared-slice-known .given (c .before .before .before .before .before .before .args .at))
+wide-requires : tie.Need-wide-requires
+wide-requires c κs = search needs
 
 returns-3 : tie.Need-returns-3
 returns-3 c = search orientation-is
@@ -41,7 +40,7 @@ parse-orientation-spec =
     returns-2
     shared-slice-read-b
     is-orientation-requires
-    cast-t11
+    wide-requires
     returns-3
     add-t12
     returns-4)

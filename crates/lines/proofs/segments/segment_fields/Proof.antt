@@ -1,6 +1,6 @@
 -- `lines::segments::segment_fields` meets its contract, by the number of fields. Assumes nothing.
 use borrow.Author.Needs.{needs}
-use Rattle.lines.proofs.LinkEnds.{has-column, segment-short, segment-held}
+use Rattle.lines.proofs.LineFields.{has-column, segment-short, segment-held}
 use Rattle.lines.proofs.segments.segment_fields.Statement.{statement}
 use Rattle.lines.proofs.segments.segment_fields.Tie as tie
 

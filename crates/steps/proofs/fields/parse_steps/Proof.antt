@@ -2,7 +2,7 @@
 use borrow.Author.Needs.{needs}
 use Rattle.steps.proofs.fields.parse_steps.Statement.{statement}
 use Rattle.steps.proofs.fields.parse_steps.Tie as tie
-use Rattle.tables.specs.Paths.{stepsOf}
+use Rattle.steps.proofs.StepFields.{of-p-line, of-w-line}
 
 enum-told : tie.Need-enum-told
 enum-told c = search needs
@@ -20,15 +20,13 @@ same-length : tie.Need-same-length
 same-length c = search needs
 
 returns : tie.Need-returns
-unfolding stepsOf
-returns c = rw (c .before .before .before .before .enum-told .given .1) (c .before .before .parse-p-steps .ensures)
+returns c = search of-p-line
 
 same-length-2 : tie.Need-same-length-2
 same-length-2 c = search needs
 
 returns-2 : tie.Need-returns-2
-unfolding stepsOf
-returns-2 c = rw (c .before .before .before .before .enum-told2 .given .1) (c .before .before .parse-w-steps .ensures)
+returns-2 c = search of-w-line
 
 pub parse-steps-spec : {M : Type 1} → statement M
 parse-steps-spec =

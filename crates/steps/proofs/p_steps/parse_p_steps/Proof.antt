@@ -8,7 +8,7 @@ is-star-requires : tie.Need-is-star-requires
 is-star-requires c κs = search needs
 
 returns : tie.Need-returns
-returns c = p-star (c .before .is-star .ensures) (c .if1 .taken)
+returns c = search p-star
 
 read-items-requires : tie.Need-read-items-requires
 read-items-requires c κs = search needs
@@ -17,7 +17,7 @@ same-length : tie.Need-same-length
 same-length c = search needs
 
 returns-2 : tie.Need-returns-2
-returns-2 c = p-items (c .before .before .before .before .before .is-star .ensures) (c .before .before .before .before .if1 .left) (c .before .before .read-items .ensures)
+returns-2 c = search p-items
 
 pub parse-p-steps-spec : {M : Type 1} → statement M
 parse-p-steps-spec =

@@ -1,14 +1,11 @@
 -- `steps::p_steps::read_item` meets its contract, by the item's last byte. Assumes nothing.
-use Prim.Native.Nat.{_-_}
-use native.Mathlib.Omega.{arith}
 use borrow.Author.Needs.{needs}
-use borrow.Author.Tests.{not-true, not-false}
 use Rattle.steps.proofs.Items.{item-none, item-no-mark, item-no-name, item-put}
 use Rattle.steps.proofs.p_steps.read_item.Statement.{statement}
 use Rattle.steps.proofs.p_steps.read_item.Tie as tie
 
 returns : tie.Need-returns
-returns c = record { says = item-none (c .if1 .taken) }
+returns c = search item-none
 
 sub-last : tie.Need-sub-last
 sub-last c = search needs
@@ -20,19 +17,19 @@ is-orientation-requires : tie.Need-is-orientation-requires
 is-orientation-requires c κs = search needs
 
 returns-2 : tie.Need-returns-2
-returns-2 c = record { says = item-no-mark (record { some = omega arith; inside = omega arith }) (c .before .is-orientation .ensures) (not-true _ (c .if2 .taken)) }
+returns-2 c = search item-no-mark
 
 returns-3 : tie.Need-returns-3
-returns-3 c = record { says = item-no-name (record { some = omega arith; inside = omega arith }) (c .if3 .taken) }
+returns-3 c = search item-no-name
 
 sub-t14 : tie.Need-sub-t14
 sub-t14 c = search needs
 
-cast-t16 : tie.Need-cast-t16
-cast-t16 c = omega (arith, c .before .before .before .shared-slice-known2 .given (c .before .before .before .before .before .before .before .args .to - 1))
+wide-requires : tie.Need-wide-requires
+wide-requires c κs = search needs
 
 put-step-requires : tie.Need-put-step-requires
-put-step-requires c κs = omega (arith, c .before .before .before .before .shared-slice-known2 .given (c .before .before .before .before .before .before .before .before .args .to - 1))
+put-step-requires c κs = search needs
 
 add-t14 : tie.Need-add-t14
 add-t14 c = search needs
@@ -41,7 +38,7 @@ same-length : tie.Need-same-length
 same-length c = search needs
 
 returns-4 : tie.Need-returns-4
-returns-4 c = record { says = item-put (record { some = omega arith; inside = omega arith }) (c .before .before .before .before .before .before .is-orientation .ensures) (not-false _ (c .before .before .before .before .before .if2 .left)) (c .before .before .before .before .if3 .left) (omega arith) (c .before .before .put-step .ensures) }
+returns-4 c = search item-put
 
 pub read-item-spec : {M : Type 1} → statement M
 read-item-spec =
@@ -54,7 +51,7 @@ read-item-spec =
     returns-2
     returns-3
     sub-t14
-    cast-t16
+    wide-requires
     put-step-requires
     add-t14
     same-length

@@ -1,6 +1,7 @@
 -- `steps::p_steps::read_items` meets its contract. The loop's invariant is the state between two items. Assumes nothing.
 use Prim.Native.Nat.{_+_, _-_}
 use native.Mathlib.Omega.{arith}
+use borrow.Author.Needs.{needs}
 use Rattle.steps.proofs.Stepping.{Stepping, stepping-start, stepping-end, stepping-bad, stepping-more}
 use Rattle.steps.proofs.p_steps.read_items.Statement.{statement}
 use Rattle.steps.proofs.p_steps.read_items.Tie as tie
@@ -15,7 +16,7 @@ add-end : tie.Need-add-end Inv-loop μ-loop
 add-end c = omega arith
 
 loop-holds : tie.Need-loop-holds Inv-loop μ-loop
-loop-holds c = stepping-start (c .before .before .pre)
+loop-holds c = search stepping-start
 
 find-requires : tie.Need-find-requires Inv-loop μ-loop
 find-requires c κs = omega arith
@@ -30,10 +31,10 @@ enum-told : tie.Need-enum-told Inv-loop μ-loop
 enum-told c = omega arith
 
 same-length : tie.Need-same-length Inv-loop μ-loop
-same-length c = omega (arith, c .before .before .before .before .read-item .kept)
+same-length c = search needs
 
 returns : tie.Need-returns Inv-loop μ-loop
-returns c = rw (c .enum-told .given .1) (stepping-bad (c .before .before .before .before .before .before .before .before .loop .inv) (c .before .before .before .before .before .before .find .ensures) (c .before .before .before .before .before .before .before .loop-test .taken) (c .before .before .before .before .read-item .ensures) (c .enum-told .given .1))
+returns c = search stepping-bad
 
 add-at : tie.Need-add-at Inv-loop μ-loop
 add-at c = omega arith
@@ -42,13 +43,13 @@ loop-less : tie.Need-loop-less Inv-loop μ-loop
 loop-less c = omega arith
 
 loop-again : tie.Need-loop-again Inv-loop μ-loop
-loop-again c = stepping-more (c .before .before .before .before .before .before .before .before .before .loop .inv) (c .before .before .before .before .before .before .before .find .ensures) (c .before .before .before .before .before .before .before .before .loop-test .taken) (c .before .before .before .before .before .read-item .ensures) (c .before .item .given .1)
+loop-again c = search stepping-more
 
 same-length-2 : tie.Need-same-length-2 Inv-loop μ-loop
 same-length-2 c = omega arith
 
 returns-2 : tie.Need-returns-2 Inv-loop μ-loop
-returns-2 c = stepping-end (c .before .loop .inv) (c .loop-test .left)
+returns-2 c = search stepping-end
 
 pub read-items-spec : {M : Type 1} → statement M
 read-items-spec =

@@ -12,7 +12,7 @@ abbrev μ-loop : tie.MeasureT-loop
 μ-loop text from to i₀ i = to - i
 
 loop-holds : tie.Need-loop-holds Inv-loop μ-loop
-loop-holds c = marking-start (c .before .pre)
+loop-holds c = search marking-start
 
 shared-slice-read-is-mark : tie.Need-shared-slice-read-is-mark Inv-loop μ-loop
 shared-slice-read-is-mark c = omega arith
@@ -21,7 +21,7 @@ is-mark-requires : tie.Need-is-mark-requires Inv-loop μ-loop
 is-mark-requires c κs = omega arith
 
 returns : tie.Need-returns Inv-loop μ-loop
-returns c = marking-hit (c .before .before .before .before .loop .inv) (c .before .before .before .loop-test .taken) (c .before .is-mark .ensures) (c .if1 .taken)
+returns c = search marking-hit
 
 add-i : tie.Need-add-i Inv-loop μ-loop
 add-i c = omega arith
@@ -30,10 +30,10 @@ loop-less : tie.Need-loop-less Inv-loop μ-loop
 loop-less c = omega arith
 
 loop-again : tie.Need-loop-again Inv-loop μ-loop
-loop-again c = marking-more (c .before .before .before .before .loop .inv) (c .before .before .before .loop-test .taken) (c .before .is-mark .ensures) (c .if1 .left)
+loop-again c = search marking-more
 
 returns-2 : tie.Need-returns-2 Inv-loop μ-loop
-returns-2 c = marking-end (c .before .loop .inv) (c .loop-test .left)
+returns-2 c = search marking-end
 
 pub find-mark-spec : {M : Type 1} → statement M
 find-mark-spec =

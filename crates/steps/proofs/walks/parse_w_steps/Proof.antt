@@ -8,10 +8,10 @@ is-star-requires : tie.Need-is-star-requires
 is-star-requires c κs = search needs
 
 returns : tie.Need-returns
-returns c = w-star (c .before .is-star .ensures) (c .if1 .taken)
+returns c = search w-star
 
 returns-2 : tie.Need-returns-2
-returns-2 c = w-none (c .before .before .is-star .ensures) (c .before .if1 .left) (c .if2 .taken)
+returns-2 c = search w-none
 
 read-walk-requires : tie.Need-read-walk-requires
 read-walk-requires c κs = search needs
@@ -20,7 +20,7 @@ same-length : tie.Need-same-length
 same-length c = search needs
 
 returns-3 : tie.Need-returns-3
-returns-3 c = w-walk (c .before .before .before .before .before .before .is-star .ensures) (c .before .before .before .before .before .if1 .left) (c .before .before .before .before .before .before .before .before .before .pre .0) (c .before .before .before .before .if2 .left) (c .before .before .read-walk .ensures)
+returns-3 c = search w-walk
 
 pub parse-w-steps-spec : {M : Type 1} → statement M
 parse-w-steps-spec =

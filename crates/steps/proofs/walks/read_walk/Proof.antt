@@ -18,10 +18,10 @@ find-mark-requires : tie.Need-find-mark-requires Inv-loop μ-loop
 find-mark-requires c κs = omega arith
 
 returns : tie.Need-returns Inv-loop μ-loop
-returns c = record { says = walking-none _ (c .before .find-mark .ensures) (c .if1 .taken) }
+returns c = search walking-none
 
 loop-holds : tie.Need-loop-holds Inv-loop μ-loop
-loop-holds c = walking-start (c .before .before .before .before .pre) (c .before .find-mark .ensures) (c .if1 .left)
+loop-holds c = search walking-start
 
 shared-slice-read-mark : tie.Need-shared-slice-read-mark Inv-loop μ-loop
 shared-slice-read-mark c = omega arith
@@ -36,13 +36,13 @@ same-length : tie.Need-same-length Inv-loop μ-loop
 same-length c = omega arith
 
 returns-2 : tie.Need-returns-2 Inv-loop μ-loop
-returns-2 c = record { says = walking-last (c .before .before .before .before .before .loop .inv) (c .before .before .before .before .loop-test .taken) (c .before .before .find-mark2 .ensures) (c .before .if2 .taken) (c .if3 .taken) }
+returns-2 c = search walking-last
 
 same-length-2 : tie.Need-same-length-2 Inv-loop μ-loop
 same-length-2 c = omega arith
 
 returns-3 : tie.Need-returns-3 Inv-loop μ-loop
-returns-3 c = record { says = walking-empty (c .before .before .before .before .before .loop .inv) (c .before .before .before .before .loop-test .taken) (c .before .before .find-mark2 .ensures) (c .before .if2 .taken) (c .if3 .left) }
+returns-3 c = search walking-empty
 
 sub-t18 : tie.Need-sub-t18 Inv-loop μ-loop
 sub-t18 c = omega arith
@@ -51,7 +51,7 @@ orientation-at-requires : tie.Need-orientation-at-requires Inv-loop μ-loop
 orientation-at-requires c κs = omega arith
 
 put-step-requires : tie.Need-put-step-requires Inv-loop μ-loop
-put-step-requires c κs = (omega arith, (omega arith, (omega arith, (rw (c .before .orientation-at .ensures) (mark-small _), tt))))
+put-step-requires c κs = (omega arith, (omega arith, (omega arith, (search mark-small, tt))))
 
 add-n : tie.Need-add-n Inv-loop μ-loop
 add-n c = omega arith
@@ -60,13 +60,13 @@ loop-less : tie.Need-loop-less Inv-loop μ-loop
 loop-less c = omega arith
 
 loop-again : tie.Need-loop-again Inv-loop μ-loop
-loop-again c = walking-more (c .before .before .before .before .before .before .before .before .before .loop .inv) (c .before .before .before .before .before .before .before .before .loop-test .taken) (c .before .before .before .before .before .before .find-mark2 .ensures) (c .before .before .before .before .before .if2 .left) (c .before .before .before .before .orientation-at .ensures) (c .before .before .put-step .ensures)
+loop-again c = search walking-more
 
 same-length-3 : tie.Need-same-length-3 Inv-loop μ-loop
 same-length-3 c = omega arith
 
 returns-4 : tie.Need-returns-4 Inv-loop μ-loop
-returns-4 c = record { says = walking-end (c .before .loop .inv) (c .loop-test .left) }
+returns-4 c = search walking-end
 
 pub read-walk-spec : {M : Type 1} → statement M
 read-walk-spec =
