@@ -35,8 +35,8 @@ use Rattle.lines.specs.declared.segments.SegmentFields.the-variants as s
 use Rattle.tables.specs.declared.entry.SegmentNo.{SegmentNo}
 use Rattle.tables.specs.declared.rows.SegmentWords.{SegmentWords}
 use Rattle.lines.specs.SegmentLines.{SegmentHolds, SegmentFieldsAre}
-use Rattle.lines.specs.PathLines.{PathHolds, PathRefused, PathSays, PathIs}
-use Rattle.lines.specs.LinkLines.{LinkHolds, LinkRefused, LinkIs}
+use Rattle.lines.specs.PathLines.{PathHolds, PathRefused, PathSays, PathStepsAre}
+use Rattle.lines.specs.LinkLines.{LinkHolds, LinkRefused, LinkFieldsAre}
 use Rattle.tables.specs.declared.rows.LinkWords.{LinkWords}
 use Rattle.tables.specs.ByNumber.{segmentWords, linkWords}
 use Rattle.work.specs.Rows.{Small}
@@ -200,7 +200,7 @@ module _ {text work work' : List ℕ} {b : Bases} {n : Counts} {start size : ℕ
 -- ---- L lines
 
 -- what the answer says, by its cases
-module _ {text : List ℕ} {start size : ℕ} {r : LinkFields} (h : LinkIs text start size r) where
+module _ {text : List ℕ} {start size : ℕ} {r : LinkFields} (h : LinkFieldsAre text start size r) where
   link-holds : {w : LinkWords} → r ≡ link-fields.Row w → LinkHolds text start size w
   link-holds e = rw e at (h .says)
 
@@ -215,7 +215,7 @@ module _ {text : List ℕ} {start size : ℕ} {r : LinkFields} (h : LinkIs text 
       omega (arith, y .inside, y .short, l .first, l .long, l .from, l .to, small (w .leaves) (l .leaves), small (w .enters) (l .enters))
 
 module _ {text work work' : List ℕ} {b : Bases} {n : Counts} {start size : ℕ} {r : LinkFields} (s : SortIs text start size sort.Link)
-    (h : LinkIs text start size r) where
+    (h : LinkFieldsAre text start size r) where
   -- the line is refused
   pub l-refused : {k : ℕ} → r ≡ link-fields.Refused k → AddedIs text work work' b n start size (Refused k)
   unfolding readAs
@@ -271,7 +271,7 @@ kind-word kind.W = refl
 -- the field that holds the steps
 module _ {text work : List ℕ} {b : Bases} {n : Counts} {start size j : ℕ} {kind : PathKind} {f : Field} (h : FieldIs text start size j f) (c : j ≡ columnOf (kindIn kind)) where
   -- too few fields
-  pub path-missing : {work' : List ℕ} {k : ℕ} → f ≡ Missing → k ≡ shortOf (kindIn kind) → PathIs text work work' b n start size kind (checked.Refused k)
+  pub path-missing : {work' : List ℕ} {k : ℕ} → f ≡ Missing → k ≡ shortOf (kindIn kind) → PathStepsAre text work work' b n start size kind (checked.Refused k)
   path-missing e k = record { says = record { read = path-short (kindIn kind) (rw c at (few-fields h e)) ∙ rw k } }
 
   module _ {from long : ℕ} (e : f ≡ Found from long) (s : SortIs text start size (sort.Path kind)) (y : Ready text work b n start size) where
@@ -287,7 +287,7 @@ module _ {text work : List ℕ} {b : Bases} {n : Counts} {start size j : ℕ} {k
 
     -- what is said of the steps is said of the line
     pub path-told : {work' : List ℕ} {base : ℕ} {r : Checked} → base ≡ b .steps + 3 * n .steps →
-        StepsIs text work work' base long (stepsOf (kindIn kind) (partAt text from long)) r → PathIs text work work' b n start size kind r
+        StepsIs text work work' base long (stepsOf (kindIn kind) (partAt text from long)) r → PathStepsAre text work work' b n start size kind r
     path-told {work'} {r = r} p i = record { says = go r (rw p at (i .says)) }
       where
         go : (r : Checked) → StepsSay text work work' (b .steps + 3 * n .steps) long (stepsOf (kindIn kind) (partAt text from long)) r →
@@ -303,7 +303,7 @@ module _ {text work : List ℕ} {b : Bases} {n : Counts} {start size j : ℕ} {k
         go (checked.Refused k) q = record { read = path-refused (kindIn kind) (rw c at (found-at h e)) q }
 
 -- what the answer says, by its cases
-module _ {text work middle : List ℕ} {b : Bases} {n : Counts} {start size : ℕ} {kind : PathKind} {c : Checked} (h : PathIs text work middle b n start size kind c) where
+module _ {text work middle : List ℕ} {b : Bases} {n : Counts} {start size : ℕ} {kind : PathKind} {c : Checked} (h : PathStepsAre text work middle b n start size kind c) where
   path-holds : {m : ℕ} → c ≡ checked.Value m → PathHolds text work middle b n start size kind m
   path-holds e = rw e at (h .says)
 

@@ -23,7 +23,7 @@ use Rattle.lines.specs.declared.links.LinkFields.the-variants as link-fi
 use Rattle.lines.specs.declared.segments.SegmentFields.the-variants as segment-fields
 use Rattle.lines.specs.Columns.{HasColumn}
 use Rattle.lines.specs.SegmentLines.{SegmentFieldsAre}
-use Rattle.lines.specs.LinkLines.{EndHolds, EndRefused, EndIs, LinkIs}
+use Rattle.lines.specs.LinkLines.{EndHolds, EndRefused, EndIs, LinkFieldsAre}
 
 -- ---- columns
 
@@ -73,7 +73,7 @@ module _ {text : List ℕ} {start size name mark n : ℕ} {r : End} (h : EndIs t
 
 module _ {text : List ℕ} {start size : ℕ} {f : Field} (h : FieldIs text start size 5 f) where
   -- too few fields
-  pub link-short : f ≡ Missing → LinkIs text start size (link-fields.Refused 7)
+  pub link-short : f ≡ Missing → LinkFieldsAre text start size (link-fields.Refused 7)
   unfolding parseL
   link-short e = record { says = record { read = rw (lt-ltb (length (fields (partAt text start size))) 6 (omega (arith, few-fields h e .few))) } }
 
@@ -82,20 +82,20 @@ module _ {text : List ℕ} {start size : ℕ} {f : Field} (h : FieldIs text star
     enough = omega (arith, found-at h found .more)
 
     -- the first orientation is refused
-    pub link-first : {k : ℕ} → a ≡ end.Refused k → LinkIs text start size (link-fields.Refused k)
+    pub link-first : {k : ℕ} → a ≡ end.Refused k → LinkFieldsAre text start size (link-fields.Refused k)
     unfolding parseL then
     link-first e = record { says = record { read = rw (le-ltb (length (fields (partAt text start size))) 6 enough, end-not i e .reads) } }
 
     module _ {p : Place} {leaves : ℕ} (e : a ≡ end.At p leaves) {z : End} (j : EndIs text start size 3 4 10 z) where
       -- the second orientation is refused
-      pub link-second : {k : ℕ} → z ≡ end.Refused k → LinkIs text start size (link-fields.Refused k)
+      pub link-second : {k : ℕ} → z ≡ end.Refused k → LinkFieldsAre text start size (link-fields.Refused k)
       unfolding parseL then
       link-second d =
           record { says = record { read = rw (le-ltb (length (fields (partAt text start size))) 6 enough, end-at i e .reads, end-not j d .reads) } }
 
       -- the words of its row
       pub link-held : {q : Place} {enters : ℕ} → z ≡ end.At q enters → start + size ≤ length text →
-          LinkIs text start size (link-fields.Row (record { line = record { start = start; size = size }; from = p; leaves = leaves; to = q; enters = enters }))
+          LinkFieldsAre text start size (link-fields.Row (record { line = record { start = start; size = size }; from = p; leaves = leaves; to = q; enters = enters }))
       unfolding parseL then partAt
       link-held {q} {enters} d inside =
           let u = end-at i e in

@@ -63,5 +63,5 @@ LinkSays text start size (held.Row w) = LinkHolds text start size w
 LinkSays text start size (held.Refused k) = LinkRefused text start size k
 
 -- What is said of an L line whose fields were read.
-pub record LinkIs (text : List ℕ) (start size : ℕ) (r : LinkFields) : Type 0 where
+pub record LinkFieldsAre (text : List ℕ) (start size : ℕ) (r : LinkFields) : Type 0 where
   pub says : LinkSays text start size r

@@ -39,5 +39,5 @@ PathSays text work work' b n start size kind (checked.Value m) = PathHolds text 
 PathSays text work work' b n start size kind (checked.Refused k) = PathRefused text start size kind k
 
 -- What is said of a P or W line whose steps were read.
-pub record PathIs (text work work' : List ℕ) (b : Bases) (n : Counts) (start size : ℕ) (kind : PathKind) (r : Checked) : Type 0 where
+pub record PathStepsAre (text work work' : List ℕ) (b : Bases) (n : Counts) (start size : ℕ) (kind : PathKind) (r : Checked) : Type 0 where
   pub says : PathSays text work work' b n start size kind r

@@ -7,7 +7,7 @@ ghost use Rattle.gfa_spec.specs.Reading.{parseOrientation};
 ghost use Rattle.steps.specs.Checked.{checkedOf};
 ghost use Rattle.lines.specs.Sorts.{SortIs};
 ghost use Rattle.lines.specs.Columns.{HasColumn};
-ghost use Rattle.lines.specs.LinkLines.{EndIs, LinkIs};
+ghost use Rattle.lines.specs.LinkLines.{EndIs, LinkFieldsAre};
 ghost use Rattle.lines.specs.Lines.{Ready, AddedIs};
 use crate::added::Added;
 use crate::columns::column;
@@ -75,7 +75,7 @@ pub enum LinkFields {
 // Reads the fields of the L line that starts at `start`.
 pub fn link_fields(text: &[u8], start: usize, size: usize) -> LinkFields
     requires { ⌜ start + size ≤ length (now text) ⌝ }
-    ensures { λ r. ⌜ LinkIs (now (text .entry)) start size r ⌝ }
+    ensures { λ r. ⌜ LinkFieldsAre (now (text .entry)) start size r ⌝ }
 {
     let Field::Found(_, _) = field_at(text, start, size, 5) else {
         return LinkFields::Refused(7);

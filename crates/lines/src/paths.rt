@@ -1,7 +1,7 @@
 // P and W lines: checked, and put into the path table.
 ghost use Prim.Native.Nat.{_+_};
 ghost use Rattle.lines.specs.Sorts.{SortIs};
-ghost use Rattle.lines.specs.PathLines.{PathIs};
+ghost use Rattle.lines.specs.PathLines.{PathStepsAre};
 ghost use Rattle.lines.specs.Lines.{Ready, AddedIs};
 use crate::added::Added;
 use crate::sort::Sort;
@@ -34,7 +34,7 @@ pub fn path_steps(
 ) -> Checked
     requires { ⌜ Ready (now text) (now work) b n start size ⌝ }
     requires { ⌜ SortIs (now text) start size (Sort.Path kind) ⌝ }
-    ensures { λ r. ⌜ PathIs (now (text .entry)) (now (work .entry)) (now (work .exit)) b n start size kind r ⌝ }
+    ensures { λ r. ⌜ PathStepsAre (now (text .entry)) (now (work .entry)) (now (work .exit)) b n start size kind r ⌝ }
 {
     let Field::Found(from, long) = field_at(text, start, size, column_of(kind)) else {
         return Checked::Refused(short_of(kind));

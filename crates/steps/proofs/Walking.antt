@@ -32,7 +32,9 @@ module _ (text : List ℕ) (i to : ℕ) (h : i < to) (k : to ≤ length text) wh
       walk i (slice i to text) ≡
       record {
         before = [];
-        steps = record { name = record { at = suc i; bytes = walk (suc i) (slice (suc i) to text) .before }; orientation = orientationOf (getD text i 0) } ∷ (walk (suc i) (slice (suc i) to text) .steps);
+        steps =
+            record { name = record { at = suc i; bytes = walk (suc i) (slice (suc i) to text) .before }; orientation = orientationOf (getD text i 0) }
+            ∷ (walk (suc i) (slice (suc i) to text) .steps);
       }
   unfolding walk
   walk-mark e = rw (slice-cons i to text 0 h k, e)
@@ -246,7 +248,9 @@ module _ {text first work : List ℕ} {base start size at n : ℕ} (s : Walking 
           few = omega (arith, s .few, b, e);
           mark = m .mark;
           long = length-sets work place row ∙ s .long;
-          rows = each-more (step-rows-kept low text base n (omega arith) (omega arith) (s .rows)) (step-row-put text work place (at + 1) (next - (at + 1)) o r (omega (arith, b, t, s .inside)) (rw p (mark-orientation (getD text at 0))));
+          rows =
+              each-more (step-rows-kept low text base n (omega arith) (omega arith) (s .rows))
+              (step-row-put text work place (at + 1) (next - (at + 1)) o r (omega (arith, b, t, s .inside)) (rw p (mark-orientation (getD text at 0))));
           whole = s .whole ∙ rw (walk-step, rest-named step _ (lines.nonEmpty _ some), add-add, more);
           only =
               only-then _ (s .only) only
