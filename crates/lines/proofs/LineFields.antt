@@ -45,10 +45,11 @@ module _ {text : List ℕ} {start size : ℕ} {f : Field} (h : FieldIs text star
   segment-short e = record { says = few-fields h e }
 
   -- the words of its row
-  pub segment-held : {x y : ℕ} {p q : Place} → f ≡ Found x y → start + size ≤ length text → FoundAt text start size 1 (p .start) (p .size) →
-      FoundAt text start size 2 (q .start) (q .size) →
-      SegmentFieldsAre text start size (segment-fields.Row (record { line = record { start = start; size = size }; id = p; sequence = q }))
-  segment-held e inside i s =
+  pub segment-held : {from long : ℕ} {p : Place} → f ≡ Found from long → start + size ≤ length text → FoundAt text start size 1 (p .start) (p .size) →
+      SegmentFieldsAre text start size
+      (segment-fields.Row (record { line = record { start = start; size = size }; id = p; sequence = record { start = from; size = long } }))
+  segment-held e inside i =
+      let s = found-at h e in
       record { says = record { columns = record { inside = inside; more = s .more }; first = refl; long = refl; id = i; sequence = s } }
 
 -- ---- an end of a link

@@ -31,11 +31,14 @@ pub fn segment_fields(text: &[u8], start: usize, size: usize) -> SegmentFields
     requires { ⌜ start + size ≤ length (now text) ⌝ }
     ensures { λ r. ⌜ SegmentFieldsAre (now (text .entry)) start size r ⌝ }
 {
-    let Field::Found(_, _) = field_at(text, start, size, 2) else {
+    let Field::Found(from, long) = field_at(text, start, size, 2) else {
         return SegmentFields::Short;
     };
     let id = column(text, start, size, 1);
-    let sequence = column(text, start, size, 2);
+    let sequence = Place {
+        start: from,
+        size: long,
+    };
     SegmentFields::Row(SegmentWords {
         line: Place { start, size },
         id,
