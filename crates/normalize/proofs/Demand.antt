@@ -12,9 +12,10 @@ use Rattle.normalize_spec.specs.Guarantees.{looser}
 use Rattle.normalize_spec.proofs.Service.{normalize-sound, normalize-monotone}
 use Rattle.normalize_spec.proofs.ServiceRefusals.{normalize-numbers}
 use Rattle.reader.specs.Served.{answerOf, outputOf}
-use Rattle.normalize.specs.declared.returning.NormalizeSelfLoopsResult.{NormalizeSelfLoopsResult}
-use Rattle.normalize.specs.Counters.{counters}
-use Rattle.normalize.specs.Served.{outcomeOf, statsOf, NormalAnswered, Keeps, LooserFolds, Normalized}
+use Rattle.folding.specs.declared.returning.NormalizeSelfLoopsResult.{NormalizeSelfLoopsResult}
+use Rattle.folding.specs.Counters.{counters}
+use Rattle.folding.specs.Answered.{outcomeOf, statsOf, NormalAnswered}
+use Rattle.normalize.specs.Served.{Keeps, LooserFolds, Normalized}
 
 module _ (text : List ℕ) (cap : ℕ) {out out' : List ℕ} (size : ℕ) {r : NormalizeSelfLoopsResult} where
   -- an answer of number 0 is the definition's text, and it stands at the front of the output

@@ -1,6 +1,4 @@
 -- Laws of the normalizer, in reading order.
-pub mod Answering
+pub mod Admitted
+pub mod Deciding
 pub mod Demand
-pub mod Tying
-pub mod Steering
-pub mod Rewrites

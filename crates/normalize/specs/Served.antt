@@ -5,29 +5,13 @@ use mathlib.Core.List.{List}
 use mathlib.Core.Path.{_≡_}
 use lib.ListN.{length, take, replicate}
 use Rattle.gfa_spec.specs.Reading.{Entry, parsed, parse}
-use Rattle.gfa_spec.specs.Calls.{Outcome, answer}
 use Rattle.normalize_spec.specs.Counting.{Stats}
-use Rattle.normalize_spec.specs.Services.{Normal, normal, normalize}
+use Rattle.normalize_spec.specs.Services.{normal, normalize}
 use Rattle.normalize_spec.specs.Guarantees.{looser, Kept, Counted, Monotone}
 use Rattle.reader.specs.Served.{answerOf, outputOf}
-use Rattle.normalize.specs.declared.returning.NormalizeSelfLoopsResult.{NormalizeSelfLoopsResult}
-use Rattle.normalize.specs.Counters.{noCounters, counters}
-
--- the answer to a call: the definition's refusal, or its text
-unfoldable pub outcomeOf : Normal → Outcome
-outcomeOf (Normal.refusal r) = Outcome.refusal r
-outcomeOf (normal text st) = answer text
-
--- the statistics: the definition's, or all 0 on a refusal
-unfoldable pub statsOf : Normal → Stats
-statsOf (Normal.refusal r) = noCounters
-statsOf (normal text st) = st
-
--- What a call returns, and leaves in the output; o is what the definition gives.
-pub record NormalAnswered (out out' : List ℕ) (r : NormalizeSelfLoopsResult) (o : Normal) : Type 0 where
-  pub answer : r .answer ≡ answerOf (outcomeOf o)
-  pub stats : counters (r .stats) ≡ statsOf o
-  pub output : out' ≡ outputOf out (outcomeOf o)
+use Rattle.folding.specs.declared.returning.NormalizeSelfLoopsResult.{NormalizeSelfLoopsResult}
+use Rattle.folding.specs.Counters.{counters}
+use Rattle.folding.specs.Answered.{outcomeOf, statsOf}
 
 -- Demand 3 of a text and of an output: both can be read, and of their entries it is said
 -- that every path spells what it spelled (`kept .spells`), has lost exactly the steps of its folded runs (`kept .lost`), and that this is its

@@ -1,7 +1,3 @@
-// The normalizer: the service that folds self-loop runs.
+// The normalizer: its settings, and the service that folds self-loop runs.
 pub mod config;
-pub mod folding;
-pub mod returning;
-pub mod rewriting;
 pub mod services;
-pub mod stats;

@@ -2,8 +2,8 @@
 use mathlib.Core.Path.{_∙_, refl}
 use borrow.Author.Needs.{needs}
 use Rattle.reader.proofs.Serving.{was-read}
-use Rattle.normalize.proofs.Steering.{text-refused, text-answered}
-use Rattle.normalize.proofs.Tying.{read-loaded}
+use Rattle.normalize.proofs.Deciding.{text-refused, text-answered}
+use Rattle.normalize.proofs.Admitted.{read-loaded}
 use Rattle.normalize.proofs.services.answer_normalize.Statement.{statement}
 use Rattle.normalize.proofs.services.answer_normalize.Tie as tie
 

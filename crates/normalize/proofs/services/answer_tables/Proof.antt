@@ -2,8 +2,9 @@
 use native.Mathlib.Omega.{arith}
 use borrow.Author.Needs.{needs}
 use Rattle.normalize_tables.proofs.Sources.{source-stands}
-use Rattle.normalize.proofs.Steering.{marks-behind, fold-ready, tables-folded, tables-returned}
-use Rattle.normalize.proofs.Tying.{loaded-source}
+use Rattle.folding.proofs.Steering.{marks-behind}
+use Rattle.normalize.proofs.Deciding.{fold-ready, tables-folded, tables-returned}
+use Rattle.normalize.proofs.Admitted.{loaded-source}
 use Rattle.normalize.proofs.services.answer_tables.Statement.{statement}
 use Rattle.normalize.proofs.services.answer_tables.Tie as tie
 

@@ -1,0 +1,112 @@
+-- The service: whether some segment is folded, and what is answered to the tables and to the text. Assumes nothing.
+use Prim.Native.Nat.{ℕ, _+_}
+use native.Mathlib.Omega.{arith}
+use mathlib.Core.Bool.{Bool, true, false, not}
+use mathlib.Core.List.{List, [], _∷_}
+use mathlib.Core.Option.{some}
+use mathlib.Core.Path.{_≡_, refl, sym, ap, _∙_}
+use lib.ListN.{length}
+use Rattle.gfa_spec.specs.Bytes.{isEmpty, any, keep}
+use Rattle.gfa_spec.specs.Reading.{Entry}
+use Rattle.gfa_spec.specs.Records.{segments, selfLinks}
+use Rattle.gfa_spec.specs.Runs.{overPaths, sameNodePairs, sameStepPairs, stepCount}
+use Rattle.gfa_spec.specs.Calls as calls
+use Rattle.gfa_spec.proofs.Tests.{by-test}
+use Rattle.normalize_spec.specs.Folding.{eligible, isFolded, folded}
+use Rattle.normalize_spec.specs.Counting.{unchanged}
+use Rattle.normalize_spec.specs.Services.{normal, normalFitted, normalizeEntries, normalize}
+use Rattle.reader.specs.declared.answers.Answer.{Answer}
+use Rattle.reader.specs.declared.input.Input.{Input}
+use Rattle.reader.specs.declared.input.Input.the-variants as input
+use Rattle.tables.specs.declared.tables.Bases.{Bases}
+use Rattle.tables.specs.declared.tables.Counts.{Counts}
+use Rattle.tables.specs.Entries.{entriesAt}
+use Rattle.reader.specs.Inputs.{stated, InputRead, InputIs}
+use Rattle.runs.specs.Counts.{overRows}
+use Rattle.reader.specs.Served.{refusedWith}
+use Rattle.normalize_tables.specs.declared.layout.Layout.{Layout}
+use Rattle.normalize_tables.specs.Layout.{Source}
+use Rattle.normalize_tables.specs.Marks.{Marked}
+use Rattle.normalize_tables.proofs.Sources.{standing, source-stands}
+use Rattle.targets.specs.Marking.{MarkedIs, AnyIs}
+use Rattle.folding.specs.declared.returning.NormalizeSelfLoopsResult.{NormalizeSelfLoopsResult}
+use Rattle.folding.specs.declared.stats.NormalizeSelfLoopsStats.{NormalizeSelfLoopsStats}
+use Rattle.folding.specs.Counters.{noCounters, counters, inputCounters, InputStats}
+use Rattle.folding.specs.Answered.{NormalAnswered}
+use Rattle.folding.specs.Tied.{Tied}
+use Rattle.normalize.specs.Loaded.{Loaded}
+use Rattle.folding.specs.Folding.{Marks, FoldTextIs}
+use Rattle.folding.proofs.Answering.{refuses}
+use Rattle.folding.proofs.Tying.{tied-stands, tied-itself}
+use Rattle.folding.proofs.Steering.{marks-behind}
+
+-- ---- rules 1 to 3
+
+-- nothing is kept where nothing passes
+keep-empty : {A : Type 0} (p : A → Bool) (xs : List A) → isEmpty (keep p xs) ≡ not (any p xs)
+unfolding isEmpty keep any
+keep-empty p [] = refl
+keep-empty p (x ∷ xs) = by-test (p x) (λ e. rw e) (λ e. rw e (keep-empty p xs))
+
+module _ (es : List Entry) (cap : ℕ) {text w : List ℕ} {b : Bases} {n : Counts} {g : Layout} (t : Tied es text w b n) where
+  -- the marks of the eligible segments
+  pub eligible-marked : {w' : List ℕ} → MarkedIs cap text w w' b n g → Marked (eligible es cap) text w' b n (g .eligible)
+  unfolding eligible
+  eligible-marked m = rw (t .of-links) at (m .marked)
+
+  -- whether some segment is folded
+  pub any-is : {r : Bool} → AnyIs text w b n g r → Marked (eligible es cap) text w b n (g .eligible) → isEmpty (folded es cap) ≡ not r
+  unfolding folded isFolded
+  any-is {r} a m =
+      let found : r ≡ any (isFolded es cap) (segments es) = a .answer (eligible es cap) m ∙ rw (t .of-segments, t .of-paths) in
+      keep-empty (isFolded es cap) (segments es) ∙ ap not (sym found)
+
+-- the counters of a text that is returned as it is
+pub stats-are : (es : List Entry) {text w : List ℕ} {b : Bases} {n : Counts} {r : NormalizeSelfLoopsStats} → Tied es text w b n → overRows length text w b n ≡ n .steps → InputStats text w b n r
+    → counters r ≡ unchanged es
+unfolding unchanged inputCounters selfLinks sameNodePairs sameStepPairs stepCount overPaths overRows
+stats-are es t v s = s .counts ∙ rw (t .of-links, t .of-paths, ← v, t .of-paths)
+
+-- ---- the answer to the tables
+
+module _ {text : List ℕ} {cap : ℕ} {w w' : List ℕ} {b : Bases} {n : Counts} {g : Layout} {stats : NormalizeSelfLoopsStats} {found : Bool}
+    (l : Loaded text w b n) (s : Source text w b n g) (i : InputStats text w b n stats) (m : MarkedIs cap text w w' b n g) (a : AnyIs text w' b n g found) where
+  now-tied : Tied (entriesAt text w b (n .lines)) text w' b n
+  now-tied = tied-stands (l .tied) (standing s (marks-behind s (g .eligible) (g .eligible + n .segs) (omega arith) (m .only)))
+
+  -- what folding asks
+  pub fold-ready : Source text w' b n g × Tied (entriesAt text w' b (n .lines)) text w' b n × Marks text w' b n (g .eligible)
+  fold-ready = (
+    source-stands s (marks-behind s (g .eligible) (g .eligible + n .segs) (omega arith) (m .only)) (m .long),
+    tied-itself now-tied,
+    record { test = _; marked = m .marked },
+  )
+
+  -- folded
+  pub tables-folded : {out out' : List ℕ} {r : NormalizeSelfLoopsResult} → found ≡ true → FoldTextIs text w' b n g stats out out' r → NormalAnswered out out' r (normalFitted (length out) (normalizeEntries text cap (calls.entries (entriesAt text w b (n .lines)))))
+  unfolding normalizeEntries
+  tables-folded e f =
+      let some-folded : isEmpty (folded (entriesAt text w b (n .lines)) cap) ≡ false = any-is _ cap now-tied a (eligible-marked _ cap (l .tied) m) ∙ ap not e in
+      rw some-folded (f .folds _ cap now-tied (eligible-marked _ cap (l .tied) m) (stats-are _ (l .tied) (l .visits) i))
+
+  -- returned
+  pub tables-returned : {out out' : List ℕ} {r : NormalizeSelfLoopsResult} → found ≡ false → NormalAnswered out out' r (normalFitted (length out) (normal text (counters stats))) → NormalAnswered out out' r (normalFitted (length out) (normalizeEntries text cap (calls.entries (entriesAt text w b (n .lines)))))
+  unfolding normalizeEntries
+  tables-returned e f =
+      let none-folded : isEmpty (folded (entriesAt text w b (n .lines)) cap) ≡ true = any-is _ cap now-tied a (eligible-marked _ cap (l .tied) m) ∙ ap not e in
+      rw (none-folded, ← stats-are (entriesAt text w b (n .lines)) (l .tied) (l .visits) i) f
+
+-- ---- the answer to the text
+
+-- the text is refused
+pub text-refused : {text before work out out' : List ℕ} {k : Input} {q : Answer} {r : NormalizeSelfLoopsResult} (cap : ℕ) → InputIs text before work k → k ≡ input.Refused q
+    → r .answer ≡ refusedWith k → counters (r .stats) ≡ noCounters → out' ≡ out → NormalAnswered out out' r (normalize text cap (length out) (length before))
+unfolding normalize normalizeEntries normalFitted
+text-refused {text} {before} {out = out} {q = q} cap h e f c u =
+    refuses (stated q) (normalize text cap (length out) (length before)) (ap (λ i. normalFitted (length out) (normalizeEntries text cap i)) (rw e at (h .says))) (f ∙ ap refusedWith e) c u
+
+-- and any other
+pub text-answered : {text before work out out' : List ℕ} {b : Bases} {n : Counts} {r : NormalizeSelfLoopsResult} (cap : ℕ) → InputRead text before work b n
+    → NormalAnswered out out' r (normalFitted (length out) (normalizeEntries text cap (calls.entries (entriesAt text work b (n .lines))))) → NormalAnswered out out' r (normalize text cap (length out) (length before))
+unfolding normalize
+text-answered cap h a = rw (h .read) a
