@@ -1,14 +1,19 @@
 -- What a normalization answers: a refusal, or the text with its statistics. Assumes nothing.
 use Prim.Native.Nat.{ℕ, _≤_, _<_}
+use native.Mathlib.Omega.{arith}
 use mathlib.Core.List.{List, _++_}
-use mathlib.Core.Path.{_≡_}
+use mathlib.Core.Path.{_≡_, refl, _∙_}
 use lib.ListN.{length, drop}
 use borrow.Author.Tests.{lt-ltb, le-ltb}
 use Rattle.gfa_spec.specs.Calls.{Refusal, plainly}
 use Rattle.normalize_spec.specs.Counting.{Stats}
 use Rattle.normalize_spec.specs.Services.{Normal, normal, normalFitted}
+use Rattle.writers.specs.Writers.{Wrote}
+use Rattle.writers.proofs.Writing.{written}
+use Rattle.reader.specs.declared.answers.Answer.{Answer}
 use Rattle.reader.specs.Served.{answerOf, outputOf}
 use Rattle.folding.specs.declared.returning.NormalizeSelfLoopsResult.{NormalizeSelfLoopsResult}
+use Rattle.folding.specs.declared.stats.NormalizeSelfLoopsStats.{NormalizeSelfLoopsStats}
 use Rattle.folding.specs.Counters.{noCounters, counters}
 use Rattle.folding.specs.Answered.{outcomeOf, statsOf, NormalAnswered}
 
@@ -32,6 +37,18 @@ no-room {out} bs st l f s u = refuses (plainly 22) (normalFitted (length out) (n
 
 -- room for it
 pub room : {out out' : List ℕ} {r : NormalizeSelfLoopsResult} (bs : List ℕ) (st : Stats) → length bs ≤ length out
-    → r .answer ≡ record { number = 0; line = 0; from = 0; length = length bs } → counters (r .stats) ≡ st → out' ≡ bs ++ drop (length bs) out → NormalAnswered out out' r (normalFitted (length out) (normal bs st))
+    → r .answer ≡ record { number = 0; line = 0; from = 0; length = length bs } → counters (r .stats) ≡ st → out' ≡ bs ++ drop (length bs) out
+    → NormalAnswered out out' r (normalFitted (length out) (normal bs st))
 unfolding normalFitted
 room {out} bs st l f s u = gives bs st (normalFitted (length out) (normal bs st)) (rw (le-ltb (length out) (length bs) l)) f s u
+
+-- ---- a text that is returned as it is
+
+module _ (text : List ℕ) (stats : NormalizeSelfLoopsStats) {out : List ℕ} {q : Answer} where
+  pub return-full : {r : NormalizeSelfLoopsResult} → length out < length text → q ≡ record { number = 22; line = 0; from = 0; length = 0 } → r .answer ≡ q → counters (r .stats) ≡ noCounters
+      → NormalAnswered out out r (normalFitted (length out) (normal text (counters stats)))
+  return-full l p f c = no-room _ _ l (f ∙ p) c refl
+
+  pub return-all : {out' : List ℕ} {next : ℕ} → length text ≤ length out → q ≡ record { number = 0; line = 0; from = 0; length = length text } → Wrote (length text) out 0 text out' next
+      → NormalAnswered out out' (record { answer = q; stats = stats }) (normalFitted (length out) (normal text (counters stats)))
+  return-all l f w = room _ _ l f refl (written l (omega arith) w)

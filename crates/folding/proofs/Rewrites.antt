@@ -4,7 +4,7 @@ use native.Mathlib.Omega.{arith}
 use mathlib.Core.Bool.{Bool, true}
 use mathlib.Core.List.{List, map}
 use mathlib.Core.Logic.{inl}
-use mathlib.Core.Path.{_≡_, sym, ap, _∙_}
+use mathlib.Core.Path.{_≡_, refl, sym, ap, _∙_}
 use lib.ListN.{length}
 use Rattle.gfa_spec.specs.Bytes.{count, sum, distinct}
 use Rattle.gfa_spec.specs.Reading.{Entry, Segment}
@@ -22,7 +22,7 @@ use Rattle.tables.specs.declared.tables.Bases.{Bases}
 use Rattle.tables.specs.declared.tables.Counts.{Counts}
 use Rattle.normalize_tables.specs.declared.layout.Layout.{Layout}
 use Rattle.normalize_tables.specs.declared.layout.Made.{Made}
-use Rattle.normalize_tables.specs.Layout.{Source}
+use Rattle.normalize_tables.specs.Layout.{Placed, Source}
 use Rattle.normalize_tables.specs.Marks.{Marked}
 use Rattle.normalize_tables.specs.News.{newAt, newsAt, namesAt, keyAt, keysAt}
 use Rattle.normalize_tables.specs.Rewritten.{Folded, Relinked}
@@ -35,31 +35,34 @@ use Rattle.relink.specs.declared.settle.Links.{Links}
 use Rattle.relink.specs.Relinking.{SettledIs}
 use Rattle.link_ends.specs.LinkEnds.{Relinkable}
 use Rattle.rewrite.specs.Rewriting.{rewrittenFrom, WroteText}
+use Rattle.reader.specs.declared.answers.Answer.{Answer}
+use Rattle.folding.specs.declared.rewriting.Passed.{Passed}
 use Rattle.folding.specs.declared.returning.NormalizeSelfLoopsResult.{NormalizeSelfLoopsResult}
 use Rattle.folding.specs.declared.stats.NormalizeSelfLoopsStats.{NormalizeSelfLoopsStats}
 use Rattle.folding.specs.Counters.{noCounters, counters, rewrittenCounters}
 use Rattle.folding.specs.Answered.{NormalAnswered}
 use Rattle.folding.specs.Tied.{Tied}
-use Rattle.folding.specs.Folding.{Marks, RewriteIs, Writable, WriteIs}
+use Rattle.folding.specs.Folding.{Marks, RewriteIs, PassedIs, Writable, WriteIs}
 use Rattle.folding.proofs.Answering.{no-room, room}
 use Rattle.folding.proofs.Tying.{tied-stands, news-are, paths-are, runs-are, changed-are, steps-are, names-apart, keys-are}
 
 -- ---- measured, and then refused or written
 
-module _ {text w : List ℕ} {b : Bases} {n : Counts} {g : Layout} {m : Made} {extra : ℕ} {stats : NormalizeSelfLoopsStats} {need : ℕ} {blank blank' out : List ℕ} {r : NormalizeSelfLoopsResult}
+module _ {text w : List ℕ} {b : Bases} {n : Counts} {g : Layout} {m : Made} {extra : ℕ} {stats : NormalizeSelfLoopsStats} {need : ℕ} {blank blank' out : List ℕ} {q : Answer}
     (h : WroteText (length out + 1) blank text w b n g m extra blank' need) where
-  pub write-full : {out' : List ℕ} → length out < need → r .answer ≡ record { number = 22; line = 0; from = 0; length = 0 } → counters (r .stats) ≡ noCounters → out' ≡ out
-      → WriteIs text w b n g m extra stats out out' r
-  write-full l f c u = record { writes = λ fs q. no-room _ _ (measured-long (h .wrote fs q) l) f c u }
+  pub write-full : {r : NormalizeSelfLoopsResult} → length out < need → q ≡ record { number = 22; line = 0; from = 0; length = 0 } → r .answer ≡ q → counters (r .stats) ≡ noCounters
+      → WriteIs text w b n g m extra stats out out r
+  write-full l p f c = record { writes = λ fs k. no-room _ _ (measured-long (h .wrote fs k) l) (f ∙ p) c refl }
 
   pub write-all : {out' : List ℕ} {next : ℕ} → need ≤ length out → WroteText (length out + 1) out text w b n g m extra out' next
-      → r .answer ≡ record { number = 0; line = 0; from = 0; length = need } → counters (r .stats) ≡ counters stats → WriteIs text w b n g m extra stats out out' r
-  write-all {out'} l v f c = record { writes = λ fs q. fits fs q }
+      → q ≡ record { number = 0; line = 0; from = 0; length = need } → WriteIs text w b n g m extra stats out out' (record { answer = q; stats = stats })
+  write-all {out'} l v f = record { writes = λ fs k. fits fs k }
     where
-      fits : (fs : List Segment) → Relinked text w b n g fs m extra → NormalAnswered out out' r (normalFitted (length out) (normal (rewrittenFrom text w b n g fs m extra) (counters stats)))
-      fits fs q =
-          let long : need ≡ length (rewrittenFrom text w b n g fs m extra) = measured (h .wrote fs q) l in
-          room (rewrittenFrom text w b n g fs m extra) (counters stats) (omega arith) (f ∙ rw long) c (written (omega arith) (omega arith) (v .wrote fs q))
+      fits : (fs : List Segment) → Relinked text w b n g fs m extra
+          → NormalAnswered out out' (record { answer = q; stats = stats }) (normalFitted (length out) (normal (rewrittenFrom text w b n g fs m extra) (counters stats)))
+      fits fs k =
+          let long : need ≡ length (rewrittenFrom text w b n g fs m extra) = measured (h .wrote fs k) l in
+          room (rewrittenFrom text w b n g fs m extra) (counters stats) (omega arith) (f ∙ rw long) refl (written (omega arith) (omega arith) (v .wrote fs k))
 
 -- ---- the transformation
 
@@ -103,9 +106,6 @@ module _ {text v u : List ℕ} {b : Bases} {n : Counts} {g : Layout} {m : Made} 
   settled-names : namesAt text u b n g (m .first) (m .segs) ≡ namesAt text v b n g (m .first) (m .segs)
   settled-names = names-kept (z .source) settled-front (z .rows)
 
-  settled-apart : distinct (namesAt text u b n g (m .first) (m .segs)) ≡ true
-  settled-apart = rw settled-names (z .apart)
-
   settled-tied : {es : List Entry} → Tied es text v b n → Tied es text u b n
   settled-tied e = tied-stands e (standing (z .source) (front-kept (z .source) settled-front))
 
@@ -147,12 +147,13 @@ module _ (es : List Entry) (cap : ℕ) {text u : List ℕ} {b : Bases} {n : Coun
   unfolding keysAt
   added-are = sym (rows-length (keyAt (namesAt text u b n g (m .first) (m .segs)) (g .steps)) 1 u (g .added) extra) ∙ ap length (keys-are cap e f r)
 
-  module _ {d : Pairs} (a : NewPairTotals u n g m d) (p : distinct (namesAt text u b n g (m .first) (m .segs)) ≡ true) where
-    node-pairs-are : d .nodes ≡ sum (map (pairs sameNewNode) (transform es cap .paths))
-    node-pairs-are = a .nodes _ p (names-length text u b n g (m .first) (m .segs)) ∙ rw (paths-are cap e f)
+module _ (es : List Entry) (cap : ℕ) {text v : List ℕ} {b : Bases} {n : Counts} {g : Layout} {m : Made} {d : Pairs} (e : Tied es text v b n) (f : Folded text v b n g (folded es cap) m)
+    (a : NewPairTotals v n g m d) (p : distinct (namesAt text v b n g (m .first) (m .segs)) ≡ true) where
+  node-pairs-are : d .nodes ≡ sum (map (pairs sameNewNode) (transform es cap .paths))
+  node-pairs-are = a .nodes _ p (names-length text v b n g (m .first) (m .segs)) ∙ rw (paths-are cap e f)
 
-    step-pairs-are : d .steps ≡ sum (map (pairs sameNewStep) (transform es cap .paths))
-    step-pairs-are = a .steps _ p (names-length text u b n g (m .first) (m .segs)) ∙ rw (paths-are cap e f)
+  step-pairs-are : d .steps ≡ sum (map (pairs sameNewStep) (transform es cap .paths))
+  step-pairs-are = a .steps _ p (names-length text v b n g (m .first) (m .segs)) ∙ rw (paths-are cap e f)
 
 -- ---- all of it
 
@@ -172,14 +173,14 @@ module _ {text w v u : List ℕ} {b : Bases} {n : Counts} {g : Layout} {m : Made
         let (r, removed, loops) = settled-is z q es cap (transformed-tied s t e) (transformed-marks s t h) in
         (r, removed, loops ∙ rw (keys-are cap now-tied now-folded r))
 
-    counts-are : {nodes : ℕ} {d : Pairs} → NewPairTotals u n g m d → nodes ≡ length (folded es cap) → rewrittenCounters (unchanged es) nodes m l d ≡ rewrittenStats es cap
+    counts-are : {nodes : ℕ} {d : Pairs} → NewPairTotals v n g m d → nodes ≡ length (folded es cap) → rewrittenCounters (unchanged es) nodes m l d ≡ rewrittenStats es cap
     unfolding rewrittenCounters rewrittenStats unchanged
     counts-are a k =
         let (r, removed, loops) = now-settled in
         rw (
           loops,
-          node-pairs-are es cap now-tied now-folded r a (settled-apart z q),
-          step-pairs-are es cap now-tied now-folded r a (settled-apart z q),
+          node-pairs-are es cap (transformed-tied s t e) (transformed-folded s t es cap e h) a (z .apart),
+          step-pairs-are es cap (transformed-tied s t e) (transformed-folded s t es cap e h) a (z .apart),
           k,
           runs-are cap now-tied now-folded,
           segs-are es cap now-tied now-folded r,
@@ -189,13 +190,36 @@ module _ {text w v u : List ℕ} {b : Bases} {n : Counts} {g : Layout} {m : Made
           steps-are cap now-tied now-folded,
         )
 
-  pub rewrites : {nodes : ℕ} {d : Pairs} {stats counted : NormalizeSelfLoopsStats} {out out' : List ℕ} {r : NormalizeSelfLoopsResult} → NewPairTotals u n g m d → counters counted ≡ rewrittenCounters (counters stats) nodes m l d
-      → WriteIs text u b n g m (l .added) counted out out' r → RewriteIs text w b n g nodes stats out out' r
-  rewrites {nodes} {stats = stats} {counted} {out} {out'} {r} a c x = record { rewrites = λ es cap e h k y. there es cap e h k y }
-    where
-      there : (es : List Entry) (cap : ℕ) → Tied es text w b n → Marked (isFolded es cap) text w b n (g .folded) → nodes ≡ length (folded es cap) → counters stats ≡ unchanged es
-          → NormalAnswered out out' r (normalFitted (length out) (normal (rewritten es cap) (rewrittenStats es cap)))
-      there es cap e h k y =
-          let links = now-settled es cap e h .0 in
-          let same-stats : counters counted ≡ rewrittenStats es cap = c ∙ rw y (counts-are es cap e h a k) in
-          rw (text-is es cap (now-tied es cap e h) (now-folded es cap e h) links, same-stats) at (x .writes (folded es cap) links)
+-- ---- what the passes ask, and what they leave
+
+-- rows of a work area that is as long as it was
+pub as-long : {b : Bases} {n : Counts} {g : Layout} {k l : ℕ} → Placed b n g k → l ≡ k → Placed b n g l
+as-long p e = rw e p
+
+pub passed : {text w v u : List ℕ} {b : Bases} {n : Counts} {g : Layout} {m : Made} {l : Links} {d : Pairs} → Source text w b n g → Marks text w b n (g .folded) → TransformIs text w v b n g m
+    → NewPairTotals v n g m d → SettledIs text v u b n g m l → PassedIs text w u b n g (record { m = m; l = l; pairs = d })
+passed s k t a q =
+    let z = relinkable s t k in
+    record {
+      long = omega (arith, t .long, q .long);
+      writable = settled-writable z q;
+      passes = λ es cap e h. record {
+        links = now-settled s t z q es cap e h .0;
+        same-text = text-is es cap (now-tied s t z q es cap e h) (now-folded s t z q es cap e h) (now-settled s t z q es cap e h .0);
+        same-counters = λ c. counts-are s t z q es cap e h a c;
+      };
+    }
+
+-- ---- rule 7
+
+pub rewrites : {text w u : List ℕ} {b : Bases} {n : Counts} {g : Layout} {p : Passed} {nodes : ℕ} {stats counted : NormalizeSelfLoopsStats} {out out' : List ℕ} {r : NormalizeSelfLoopsResult}
+    → PassedIs text w u b n g p → counters counted ≡ rewrittenCounters (counters stats) nodes (p .m) (p .l) (p .pairs) → WriteIs text u b n g (p .m) (p .l .added) counted out out' r
+    → RewriteIs text w b n g nodes stats out out' r
+rewrites {text} {w} {b = b} {n} {g} {p} {nodes} {stats} {counted} {out} {out'} {r} a c x = record { rewrites = λ es cap e h k y. there es cap e h k y }
+  where
+    there : (es : List Entry) (cap : ℕ) → Tied es text w b n → Marked (isFolded es cap) text w b n (g .folded) → nodes ≡ length (folded es cap) → counters stats ≡ unchanged es
+        → NormalAnswered out out' r (normalFitted (length out) (normal (rewritten es cap) (rewrittenStats es cap)))
+    there es cap e h k y =
+        let made = a .passes es cap e h in
+        let same-stats : counters counted ≡ rewrittenStats es cap = c ∙ rw y (made .same-counters k) in
+        rw (made .same-text, same-stats) at (x .writes (folded es cap) (made .links))

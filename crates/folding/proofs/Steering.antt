@@ -68,21 +68,21 @@ module _ (es : List Entry) (cap : ℕ) {text w : List ℕ} {b : Bases} {n : Coun
 
 -- ---- some segment is folded
 
-module _ {text w : List ℕ} {b : Bases} {n : Counts} {g : Layout} {stats : NormalizeSelfLoopsStats} {out out' : List ℕ} {r : NormalizeSelfLoopsResult} where
+module _ {text w : List ℕ} {b : Bases} {n : Counts} {g : Layout} {stats : NormalizeSelfLoopsStats} {out : List ℕ} {r : NormalizeSelfLoopsResult} {k : Steps} where
   -- a step is bad
-  pub fold-bad : {k : Steps} {q : Answer} → BadStepIs text w b n k → k ≡ steps.Bad q → r .answer ≡ badAnswerIn k → counters (r .stats) ≡ noCounters → out' ≡ out → FoldTextIs text w b n g stats out out' r
+  pub fold-bad : {q p : Answer} → BadStepIs text w b n k → k ≡ steps.Bad q → p ≡ badAnswerIn k → r .answer ≡ p → counters (r .stats) ≡ noCounters → FoldTextIs text w b n g stats out out r
   unfolding fold normalFitted
-  fold-bad {k} {q} h e f c u = record { folds = λ es cap t m s. there es cap t }
+  fold-bad {q} h e a f c = record { folds = λ es cap t m s. there es cap t }
     where
-      there : (es : List Entry) (cap : ℕ) → Tied es text w b n → NormalAnswered out out' r (normalFitted (length out) (fold es cap (badStep es (paths es))))
+      there : (es : List Entry) (cap : ℕ) → Tied es text w b n → NormalAnswered out out r (normalFitted (length out) (fold es cap (badStep es (paths es))))
       there es cap t =
           let bad : badStep es (paths es) ≡ some (stated q) = rw e at (h .first es (sym (t .of-segments)) (sym (t .of-paths))) in
-          refuses (stated q) (normalFitted (length out) (fold es cap (badStep es (paths es)))) (rw bad) (f ∙ ap badAnswerIn e) c u
+          refuses (stated q) (normalFitted (length out) (fold es cap (badStep es (paths es)))) (rw bad) (f ∙ a ∙ ap badAnswerIn e) c refl
 
   -- no step is bad
-  pub fold-good : {w' : List ℕ} {nodes : ℕ} {k : Steps} → Source text w b n g → BadStepIs text w b n k → k ≡ steps.Known → MarkFoldedIs text w w' b n g nodes → RewriteIs text w' b n g nodes stats out out' r
+  pub fold-good : {w' out' : List ℕ} {nodes : ℕ} → Source text w b n g → BadStepIs text w b n k → k ≡ steps.Known → MarkFoldedIs text w w' b n g nodes → RewriteIs text w' b n g nodes stats out out' r
       → FoldTextIs text w b n g stats out out' r
-  fold-good {w'} {nodes} {k} source h e f x = record { folds = λ es cap t m s. there es cap t m s }
+  fold-good {w'} {out'} {nodes} source h e f x = record { folds = λ es cap t m s. there es cap t m s }
     where
       there : (es : List Entry) (cap : ℕ) → Tied es text w b n → Marked (eligible es cap) text w b n (g .eligible) → counters stats ≡ unchanged es
           → NormalAnswered out out' r (normalFitted (length out) (fold es cap (badStep es (paths es))))
@@ -94,14 +94,12 @@ module _ {text w : List ℕ} {b : Bases} {n : Counts} {g : Layout} {stats : Norm
 
 -- ---- what the rewriting asks
 
-module _ {text w w' : List ℕ} {b : Bases} {n : Counts} {g : Layout} {nodes : ℕ} (s : Source text w b n g) (f : MarkFoldedIs text w w' b n g nodes) where
-  folding-front : KeptWords (b .lines) (b .steps + 3 * n .steps) w w'
-  folding-front = marks-behind s (g .folded) (g .folded + n .segs) (omega (arith, s .placed)) (f .only)
-
-  -- the tables, known steps, and marks
-  pub rewrite-ready : {es : List Entry} {k : Steps} → Tied es text w b n → BadStepIs text w b n k → k ≡ steps.Known → Marks text w b n (g .eligible)
-      → Source text w' b n g × AllKnown text w' b n × Marks text w' b n (g .folded)
-  rewrite-ready {es} t h e q =
-      let good = rw e at (h .first es (sym (t .of-segments)) (sym (t .of-paths))) in
-      let now = tied-stands t (standing s folding-front) in
-      (source-stands s folding-front (f .long), all-known es text w' b n (sym (now .of-segments)) (sym (now .of-paths)) good, record { test = _; marked = f .marked (q .test) (q .marked) })
+-- the tables, known steps, and marks
+pub rewrite-ready : {es : List Entry} {text w w' : List ℕ} {b : Bases} {n : Counts} {g : Layout} {nodes : ℕ} {k : Steps}
+    → Source text w b n g × Tied es text w b n × Marks text w b n (g .eligible) → BadStepIs text w b n k → k ≡ steps.Known → MarkFoldedIs text w w' b n g nodes
+    → Source text w' b n g × AllKnown text w' b n × Marks text w' b n (g .folded)
+rewrite-ready {es} {text} {w} {w'} {b} {n} {g} (s, t, q) h e f =
+    let front = marks-behind s (g .folded) (g .folded + n .segs) (omega (arith, s .placed)) (f .only) in
+    let good = rw e at (h .first es (sym (t .of-segments)) (sym (t .of-paths))) in
+    let now = tied-stands t (standing s front) in
+    (source-stands s front (f .long), all-known es text w' b n (sym (now .of-segments)) (sym (now .of-paths)) good, record { test = _; marked = f .marked (q .test) (q .marked) })

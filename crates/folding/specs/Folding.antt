@@ -25,8 +25,9 @@ use Rattle.normalize_tables.specs.Rewritten.{NewRows, Relinked}
 use Rattle.work.specs.Rows.{EachRow}
 use Rattle.rewrite.specs.Rewriting.{rewrittenFrom}
 use Rattle.folding.specs.declared.returning.NormalizeSelfLoopsResult.{NormalizeSelfLoopsResult}
+use Rattle.folding.specs.declared.rewriting.Passed.{Passed}
 use Rattle.folding.specs.declared.stats.NormalizeSelfLoopsStats.{NormalizeSelfLoopsStats}
-use Rattle.folding.specs.Counters.{counters}
+use Rattle.folding.specs.Counters.{counters, rewrittenCounters}
 use Rattle.folding.specs.Answered.{NormalAnswered}
 use Rattle.folding.specs.Tied.{Tied}
 
@@ -56,6 +57,18 @@ pub record Writable (text work : List ℕ) (b : Bases) (n : Counts) (g : Layout)
   pub rows : NewRows work n g m
   pub keys : EachRow (KeyRow (m .steps)) 1 work (g .added) extra
   pub few : extra ≤ m .steps
+
+-- What rules 4 to 6 left in the tables is what the definition makes of the entries es: which links are removed and added, the rewritten text, and its counters.
+pub record Passes (es : List Entry) (cap : ℕ) (text work : List ℕ) (b : Bases) (n : Counts) (g : Layout) (p : Passed) : Type 0 where
+  pub links : Relinked text work b n g (folded es cap) (p .m) (p .l .added)
+  pub same-text : rewrittenFrom text work b n g (folded es cap) (p .m) (p .l .added) ≡ rewritten es cap
+  pub same-counters : {nodes : ℕ} → nodes ≡ length (folded es cap) → rewrittenCounters (unchanged es) nodes (p .m) (p .l) (p .pairs) ≡ rewrittenStats es cap
+
+-- What rules 4 to 6 leave: a text that can be written, and the definition's text and counters.
+pub record PassedIs (text work work' : List ℕ) (b : Bases) (n : Counts) (g : Layout) (p : Passed) : Type 0 where
+  pub long : length work' ≡ length work
+  pub writable : Writable text work' b n g (p .m) (p .l .added)
+  pub passes : (es : List Entry) (cap : ℕ) → Tied es text work b n → Marked (isFolded es cap) text work b n (g .folded) → Passes es cap text work' b n g p
 
 -- What is answered once the links are settled: the rewritten text of the tables, with these statistics.
 pub record WriteIs (text work : List ℕ) (b : Bases) (n : Counts) (g : Layout) (m : Made) (extra : ℕ) (stats : NormalizeSelfLoopsStats) (out out' : List ℕ) (r : NormalizeSelfLoopsResult) : Type 0 where

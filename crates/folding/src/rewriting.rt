@@ -3,7 +3,7 @@ ghost use mathlib.Core.Path.{_≡_};
 ghost use Rattle.normalize_tables.specs.Layout.{Source};
 ghost use Rattle.fold.specs.Transforms.{AllKnown};
 ghost use Rattle.folding.specs.Counters.{counters, rewrittenCounters};
-ghost use Rattle.folding.specs.Folding.{Marks, RewriteIs, Writable, WriteIs};
+ghost use Rattle.folding.specs.Folding.{Marks, PassedIs, RewriteIs, Writable, WriteIs};
 use crate::returning::NormalizeSelfLoopsResult;
 use crate::returning::refused;
 use crate::stats::NormalizeSelfLoopsStats;
@@ -19,6 +19,13 @@ use rewrite::rewritten::put_rewritten;
 use runs::counts::Pairs;
 use tables::tables::Bases;
 use tables::tables::Counts;
+
+// What rules 4 to 6 made and counted: new segments and steps, links, and pairs of the new paths.
+pub struct Passed {
+    pub m: Made,
+    pub l: Links,
+    pub pairs: Pairs,
+}
 
 // The counters of a text that is rewritten: those of the input stay.
 pub fn rewritten_stats(
@@ -48,7 +55,7 @@ pub fn rewritten_stats(
     }
 }
 
-// Measures the rewritten text on an empty part of the buffer, and writes it where it fits.
+// Measures the rewritten text on an empty buffer, and writes it where it fits.
 pub fn write_text(
     text: &[u8],
     work: &[u32],
@@ -62,7 +69,8 @@ pub fn write_text(
 {
     let room = out.len();
     let limit = room + 1;
-    let need = put_rewritten(&mut out[..0], limit, text, work, a, extra);
+    let mut nothing = [0u8; 0];
+    let need = put_rewritten(&mut nothing, limit, text, work, a, extra);
     if room < need {
         return refused(plain(22, 0));
     }
@@ -71,6 +79,17 @@ pub fn write_text(
         answer: plain(0, need),
         stats,
     }
+}
+
+// Rules 4 to 6 on the text whose folded segments are marked: its paths transformed, the new pairs counted, its links settled.
+pub fn pass_text(text: &[u8], work: &mut [u32], b: Bases, n: Counts, g: Layout) -> Passed
+    requires { ⌜ Source (now text) (now work) b n g × AllKnown (now text) (now work) b n × Marks (now text) (now work) b n (g .folded) ⌝ }
+    ensures { λ r. ⌜ PassedIs (now (text .entry)) (now (work .entry)) (now (work .exit)) b n g r ⌝ }
+{
+    let m = transform(text, work, b, n, g);
+    let pairs = new_pairs(work, b, n, g, m);
+    let l = settle_links(text, work, Area { b, n, g, m });
+    Passed { m, l, pairs }
 }
 
 // Rewrites the text whose folded segments are marked: there are `nodes` of them.
@@ -87,10 +106,10 @@ pub fn rewrite_text(
     requires { ⌜ Source (now text) (now work) b n g × AllKnown (now text) (now work) b n × Marks (now text) (now work) b n (g .folded) ⌝ }
     ensures { λ r. ⌜ RewriteIs (now (text .entry)) (now (work .entry)) b n g nodes stats (now (out .entry)) (now (out .exit)) r ⌝ }
 {
-    let m = transform(text, work, b, n, g);
-    let a = Area { b, n, g, m };
-    let l = settle_links(text, work, a);
-    let pairs = new_pairs(work, b, n, g, m);
+    let p = pass_text(text, work, b, n, g);
+    let m = p.m;
+    let l = p.l;
+    let pairs = p.pairs;
     let counted = rewritten_stats(stats, nodes, m, l, pairs);
-    write_text(text, work, a, l.added, counted, out)
+    write_text(text, work, Area { b, n, g, m }, l.added, counted, out)
 }

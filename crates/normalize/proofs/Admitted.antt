@@ -1,8 +1,7 @@
--- An admitted text: its tables, and room behind them. Assumes nothing.
+-- The tables of an admitted text. Assumes nothing.
 use Prim.Native.Nat.{ℕ}
-use native.Mathlib.Omega.{arith}
 use mathlib.Core.List.{List}
-use mathlib.Core.Path.{refl, sym, _∙_}
+use mathlib.Core.Path.{_≡_, refl, sym, _∙_}
 use lib.ListN.{length}
 use Rattle.gfa_spec.specs.Runs.{stepCount}
 use Rattle.gfa_spec.proofs.Texts.{parse-distinct}
@@ -11,14 +10,15 @@ use Rattle.tables.specs.declared.tables.Bases.{Bases}
 use Rattle.tables.specs.declared.tables.Counts.{Counts}
 use Rattle.tables.specs.Segments.{idsOf}
 use Rattle.tables.specs.Entries.{entriesAt}
-use Rattle.reader.specs.Inputs.{InputRead}
+use Rattle.reader.specs.Inputs.{InputRead, InputIs}
+use Rattle.reader.specs.declared.input.Input.{Input}
+use Rattle.reader.specs.declared.input.Input.the-variants as input
+use Rattle.reader.proofs.Serving.{was-read}
 use Rattle.runs.proofs.Totals.{readable, over-entries}
-use Rattle.normalize_tables.specs.declared.layout.Layout.{Layout}
-use Rattle.normalize_tables.specs.Layout.{Placed, Source}
 use Rattle.normalize.specs.Loaded.{Loaded}
 
 -- the tables that were read
-pub read-loaded : {text before w : List ℕ} {b : Bases} {n : Counts} → InputRead text before w b n → Loaded text w b n
+read-loaded : {text before w : List ℕ} {b : Bases} {n : Counts} → InputRead text before w b n → Loaded text w b n
 unfolding idsOf stepCount
 read-loaded {text} {before} {w} {b} {n} h =
     let a = input-entries text (length before) (entriesAt text w b (n .lines)) (h .read) in
@@ -29,6 +29,5 @@ read-loaded {text} {before} {w} {b} {n} h =
       visits = over-entries (h .tables) length ∙ h .tables .visits;
     }
 
--- and room behind them
-pub loaded-source : {text w : List ℕ} {b : Bases} {n : Counts} {g : Layout} → Loaded text w b n → Placed b n g (length w) → Source text w b n g
-loaded-source l p = record { readable = l .readable; placed = p; apart = l .apart; visits = omega (arith, l .visits) }
+pub input-loaded : {text before w : List ℕ} {k : Input} {b : Bases} {n : Counts} → InputIs text before w k → k ≡ input.Tables b n → Loaded text w b n
+input-loaded h e = read-loaded (was-read h e)

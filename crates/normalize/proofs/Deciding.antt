@@ -1,5 +1,5 @@
--- The service: whether some segment is folded, and what is answered to the tables and to the text. Assumes nothing.
-use Prim.Native.Nat.{ℕ, _+_}
+-- Whether some segment is folded, and what is answered to the tables and to the text. Assumes nothing.
+use Prim.Native.Nat.{ℕ, _+_, _*_}
 use native.Mathlib.Omega.{arith}
 use mathlib.Core.Bool.{Bool, true, false, not}
 use mathlib.Core.List.{List, [], _∷_}
@@ -21,11 +21,13 @@ use Rattle.reader.specs.declared.input.Input.the-variants as input
 use Rattle.tables.specs.declared.tables.Bases.{Bases}
 use Rattle.tables.specs.declared.tables.Counts.{Counts}
 use Rattle.tables.specs.Entries.{entriesAt}
-use Rattle.reader.specs.Inputs.{stated, InputRead, InputIs}
+use Rattle.reader.specs.Inputs.{stated, InputIs}
 use Rattle.runs.specs.Counts.{overRows}
 use Rattle.reader.specs.Served.{refusedWith}
+use Rattle.reader.proofs.Serving.{was-read}
+use Rattle.work.proofs.Rows.{KeptWords}
 use Rattle.normalize_tables.specs.declared.layout.Layout.{Layout}
-use Rattle.normalize_tables.specs.Layout.{Source}
+use Rattle.normalize_tables.specs.Layout.{Placed, Source}
 use Rattle.normalize_tables.specs.Marks.{Marked}
 use Rattle.normalize_tables.proofs.Sources.{standing, source-stands}
 use Rattle.targets.specs.Marking.{MarkedIs, AnyIs}
@@ -34,8 +36,9 @@ use Rattle.folding.specs.declared.stats.NormalizeSelfLoopsStats.{NormalizeSelfL
 use Rattle.folding.specs.Counters.{noCounters, counters, inputCounters, InputStats}
 use Rattle.folding.specs.Answered.{NormalAnswered}
 use Rattle.folding.specs.Tied.{Tied}
-use Rattle.normalize.specs.Loaded.{Loaded}
-use Rattle.folding.specs.Folding.{Marks, FoldTextIs}
+use Rattle.normalize.specs.Loaded.{Loaded, Decided}
+use Rattle.normalize.specs.declared.services.Decision.{Decision}
+use Rattle.folding.specs.Folding.{FoldTextIs}
 use Rattle.folding.proofs.Answering.{refuses}
 use Rattle.folding.proofs.Tying.{tied-stands, tied-itself}
 use Rattle.folding.proofs.Steering.{marks-behind}
@@ -67,46 +70,68 @@ pub stats-are : (es : List Entry) {text w : List ℕ} {b : Bases} {n : Counts} {
 unfolding unchanged inputCounters selfLinks sameNodePairs sameStepPairs stepCount overPaths overRows
 stats-are es t v s = s .counts ∙ rw (t .of-links, t .of-paths, ← v, t .of-paths)
 
+-- ---- the decision
+
+module _ {text w : List ℕ} {b : Bases} {n : Counts} {g : Layout} (l : Loaded text w b n) (p : Placed b n g (length w)) where
+  pub loaded-source : Source text w b n g
+  loaded-source = record { readable = l .readable; placed = p; apart = l .apart; visits = omega (arith, l .visits) }
+
+  module _ {cap : ℕ} {w' : List ℕ} (m : MarkedIs cap text w w' b n g) where
+    front : KeptWords (b .lines) (b .steps + 3 * n .steps) w w'
+    front = marks-behind loaded-source (g .eligible) (g .eligible + n .segs) (omega arith) (m .only)
+
+    source-behind : Source text w' b n g
+    source-behind = source-stands loaded-source front (m .long)
+
+    marked-tied : Tied (entriesAt text w b (n .lines)) text w' b n
+    marked-tied = tied-stands (l .tied) (standing loaded-source front)
+
+    pub decided : {stats : NormalizeSelfLoopsStats} {found : Bool} → InputStats text w b n stats → AnyIs text w' b n g found → Decided text cap w w' b n (record { g = g; stats = stats; any = found })
+    decided i a =
+        let same = marked-tied .entries in
+        let marked = eligible-marked (entriesAt text w b (n .lines)) cap (l .tied) m in
+        record {
+          long = m .long;
+          source = source-behind;
+          tied = tied-itself marked-tied;
+          marks = record { test = _; marked = m .marked };
+          same = same;
+          marked = rw same marked;
+          none = rw same (any-is _ cap marked-tied a marked);
+          counted = rw same (stats-are _ (l .tied) (l .visits) i);
+        }
+
+pub marked-source : {text w w' : List ℕ} {cap : ℕ} {b : Bases} {n : Counts} {g : Layout} → MarkedIs cap text w w' b n g → Loaded text w b n → Placed b n g (length w) → Source text w' b n g
+marked-source m l p = source-behind l p m
+
 -- ---- the answer to the tables
 
-module _ {text : List ℕ} {cap : ℕ} {w w' : List ℕ} {b : Bases} {n : Counts} {g : Layout} {stats : NormalizeSelfLoopsStats} {found : Bool}
-    (l : Loaded text w b n) (s : Source text w b n g) (i : InputStats text w b n stats) (m : MarkedIs cap text w w' b n g) (a : AnyIs text w' b n g found) where
-  now-tied : Tied (entriesAt text w b (n .lines)) text w' b n
-  now-tied = tied-stands (l .tied) (standing s (marks-behind s (g .eligible) (g .eligible + n .segs) (omega arith) (m .only)))
-
-  -- what folding asks
-  pub fold-ready : Source text w' b n g × Tied (entriesAt text w' b (n .lines)) text w' b n × Marks text w' b n (g .eligible)
-  fold-ready = (
-    source-stands s (marks-behind s (g .eligible) (g .eligible + n .segs) (omega arith) (m .only)) (m .long),
-    tied-itself now-tied,
-    record { test = _; marked = m .marked },
-  )
-
+module _ {text : List ℕ} {cap : ℕ} {w w' : List ℕ} {b : Bases} {n : Counts} {d : Decision} {out out' : List ℕ} {r : NormalizeSelfLoopsResult} (h : Decided text cap w w' b n d) where
   -- folded
-  pub tables-folded : {out out' : List ℕ} {r : NormalizeSelfLoopsResult} → found ≡ true → FoldTextIs text w' b n g stats out out' r → NormalAnswered out out' r (normalFitted (length out) (normalizeEntries text cap (calls.entries (entriesAt text w b (n .lines)))))
+  pub tables-folded : d .any ≡ true → FoldTextIs text w' b n (d .g) (d .stats) out out' r
+      → NormalAnswered out out' r (normalFitted (length out) (normalizeEntries text cap (calls.entries (entriesAt text w b (n .lines)))))
   unfolding normalizeEntries
-  tables-folded e f =
-      let some-folded : isEmpty (folded (entriesAt text w b (n .lines)) cap) ≡ false = any-is _ cap now-tied a (eligible-marked _ cap (l .tied) m) ∙ ap not e in
-      rw some-folded (f .folds _ cap now-tied (eligible-marked _ cap (l .tied) m) (stats-are _ (l .tied) (l .visits) i))
+  tables-folded e f = rw (← h .same, h .none, e) (f .folds _ cap (h .tied) (h .marked) (h .counted))
 
   -- returned
-  pub tables-returned : {out out' : List ℕ} {r : NormalizeSelfLoopsResult} → found ≡ false → NormalAnswered out out' r (normalFitted (length out) (normal text (counters stats))) → NormalAnswered out out' r (normalFitted (length out) (normalizeEntries text cap (calls.entries (entriesAt text w b (n .lines)))))
+  pub tables-returned : d .any ≡ false → NormalAnswered out out' r (normalFitted (length out) (normal text (counters (d .stats))))
+      → NormalAnswered out out' r (normalFitted (length out) (normalizeEntries text cap (calls.entries (entriesAt text w b (n .lines)))))
   unfolding normalizeEntries
-  tables-returned e f =
-      let none-folded : isEmpty (folded (entriesAt text w b (n .lines)) cap) ≡ true = any-is _ cap now-tied a (eligible-marked _ cap (l .tied) m) ∙ ap not e in
-      rw (none-folded, ← stats-are (entriesAt text w b (n .lines)) (l .tied) (l .visits) i) f
+  tables-returned e f = rw (← h .same, h .none, e, ← h .counted) f
 
 -- ---- the answer to the text
 
 -- the text is refused
-pub text-refused : {text before work out out' : List ℕ} {k : Input} {q : Answer} {r : NormalizeSelfLoopsResult} (cap : ℕ) → InputIs text before work k → k ≡ input.Refused q
-    → r .answer ≡ refusedWith k → counters (r .stats) ≡ noCounters → out' ≡ out → NormalAnswered out out' r (normalize text cap (length out) (length before))
+pub text-refused : {text before work out : List ℕ} {k : Input} {q p : Answer} {r : NormalizeSelfLoopsResult} (cap : ℕ) → InputIs text before work k → k ≡ input.Refused q
+    → p ≡ refusedWith k → r .answer ≡ p → counters (r .stats) ≡ noCounters → NormalAnswered out out r (normalize text cap (length out) (length before))
 unfolding normalize normalizeEntries normalFitted
-text-refused {text} {before} {out = out} {q = q} cap h e f c u =
-    refuses (stated q) (normalize text cap (length out) (length before)) (ap (λ i. normalFitted (length out) (normalizeEntries text cap i)) (rw e at (h .says))) (f ∙ ap refusedWith e) c u
+text-refused {text} {before} {out = out} {q = q} cap h e a f c =
+    let says = ap (λ i. normalFitted (length out) (normalizeEntries text cap i)) (rw e at (h .says)) in
+    refuses (stated q) (normalize text cap (length out) (length before)) says (f ∙ a ∙ ap refusedWith e) c refl
 
 -- and any other
-pub text-answered : {text before work out out' : List ℕ} {b : Bases} {n : Counts} {r : NormalizeSelfLoopsResult} (cap : ℕ) → InputRead text before work b n
-    → NormalAnswered out out' r (normalFitted (length out) (normalizeEntries text cap (calls.entries (entriesAt text work b (n .lines))))) → NormalAnswered out out' r (normalize text cap (length out) (length before))
+pub text-answered : {text before work out out' : List ℕ} {k : Input} {b : Bases} {n : Counts} {r : NormalizeSelfLoopsResult} (cap : ℕ) → InputIs text before work k → k ≡ input.Tables b n
+    → NormalAnswered out out' r (normalFitted (length out) (normalizeEntries text cap (calls.entries (entriesAt text work b (n .lines)))))
+    → NormalAnswered out out' r (normalize text cap (length out) (length before))
 unfolding normalize
-text-answered cap h a = rw (h .read) a
+text-answered cap h e a = rw (was-read h e .read) a

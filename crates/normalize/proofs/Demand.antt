@@ -47,6 +47,10 @@ module _ (text : List ℕ) (cap : ℕ) {out out' : List ℕ} (size : ℕ) {r : N
       → Normalized text cap out out' size work' r
   normalized mid a e l = record { answer = a .answer; stats = a .stats; output = a .output; cleared = e ∙ rw l; kept = keeps a; folds = folds a }
 
+-- the settings hold the cap
+pub capped : {text out out' work' : List ℕ} {c cap size : ℕ} {r : NormalizeSelfLoopsResult} → c ≡ cap → Normalized text c out out' size work' r → Normalized text cap out out' size work' r
+capped e h = rw e at h
+
 -- ---- two calls
 
 -- Demand 3, looser caps fold at least as much: of two accepted calls on one text, whatever room and whatever work area was lent to each and whatever

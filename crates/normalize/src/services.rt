@@ -10,13 +10,15 @@ ghost use Rattle.normalize_spec.specs.Services.{normalFitted, normalizeEntries,
 ghost use Rattle.tables.specs.Entries.{entriesAt};
 ghost use Rattle.folding.specs.Answered.{NormalAnswered};
 ghost use Rattle.normalize.specs.Served.{Normalized};
-ghost use Rattle.normalize.specs.Loaded.{Loaded};
+ghost use Rattle.normalize.specs.Loaded.{Loaded, Decided};
 use crate::config::NormalizeSelfLoopsConfig;
 use folding::folding::fold_text;
 use folding::returning::NormalizeSelfLoopsResult;
 use folding::returning::refused;
 use folding::returning::return_text;
+use folding::stats::NormalizeSelfLoopsStats;
 use folding::stats::input_stats;
+use normalize_tables::layout::Layout;
 use normalize_tables::layout::layout_of;
 use reader::input::Input;
 use reader::input::parse_gfa;
@@ -26,6 +28,25 @@ use tables::tables::Counts;
 use targets::eligible::mark_eligible;
 use targets::folded::any_folded;
 use work::work::clear;
+
+// What is known once rules 1 and 2 were tried: where the tables of folding are, the counters of the text as it is, and whether any segment is folded.
+pub struct Decision {
+    pub g: Layout,
+    pub stats: NormalizeSelfLoopsStats,
+    pub any: bool,
+}
+
+// Marks the eligible segments, and tells whether any segment is folded.
+fn decide(text: &[u8], cap: usize, work: &mut [u32], b: Bases, n: Counts) -> Decision
+    requires { ⌜ Loaded (now text) (now work) b n ⌝ }
+    ensures { λ r. ⌜ Decided (now (text .entry)) cap (now (work .entry)) (now (work .exit)) b n r ⌝ }
+{
+    let stats = input_stats(text, work, b, n);
+    let g = layout_of(work, b, n);
+    mark_eligible(text, work, b, n, g, cap);
+    let any = any_folded(text, work, b, n, g);
+    Decision { g, stats, any }
+}
 
 // The answer to the tables of a text: the text as it is where no segment is folded, else what folding gives.
 fn answer_tables(
@@ -40,10 +61,10 @@ fn answer_tables(
     ensures { λ r. ⌜ NormalAnswered (now (out .entry)) (now (out .exit)) r
         (normalFitted (length (now (out .entry))) (normalizeEntries (now (text .entry)) cap (entries (entriesAt (now (text .entry)) (now (work .entry)) b (n .lines))))) ⌝ }
 {
-    let stats = input_stats(text, work, b, n);
-    let g = layout_of(work, b, n);
-    mark_eligible(text, work, b, n, g, cap);
-    if any_folded(text, work, b, n, g) {
+    let d = decide(text, cap, work, b, n);
+    let g = d.g;
+    let stats = d.stats;
+    if d.any {
         return fold_text(text, work, b, n, g, stats, out);
     }
     return_text(text, out, stats)

@@ -1,12 +1,11 @@
 -- `folding::folding::fold_text` meets its contract: a bad step, or the rewritten text. Assumes nothing.
-use mathlib.Core.Path.{_∙_, refl}
 use borrow.Author.Needs.{needs}
 use Rattle.folding.proofs.Steering.{fold-bad, fold-good, rewrite-ready}
 use Rattle.folding.proofs.folding.fold_text.Statement.{statement}
 use Rattle.folding.proofs.folding.fold_text.Tie as tie
 
 bad-step-requires : tie.Need-bad-step-requires
-bad-step-requires c κs = c .before .before .before .before .pre .0 .readable
+bad-step-requires c κs = search needs
 
 enum-told : tie.Need-enum-told
 enum-told c = search needs
@@ -24,13 +23,16 @@ same-length : tie.Need-same-length
 same-length c = search needs
 
 returns : tie.Need-returns
-returns c = fold-bad (c .before .before .before .before .bad-step .ensures) (c .before .before .enum-told2 .given .1) (c .refused .ensures .0 ∙ c .before .bad-answer .ensures) (c .refused .ensures .1) refl
+returns c = search fold-bad
 
 mark-folded-requires : tie.Need-mark-folded-requires
-mark-folded-requires c κs = c .before .before .before .before .before .before .before .before .pre .0
+mark-folded-requires c κs = search needs
 
 rewrite-text-requires : tie.Need-rewrite-text-requires
-rewrite-text-requires c κs = rewrite-ready (c .before .before .before .before .before .before .before .before .before .before .before .before .before .pre .0) (c .before .before .before .before .mark-folded .ensures) (c .before .before .before .before .before .before .before .before .before .before .before .before .before .pre .1) (c .before .before .before .before .before .before .before .before .bad-step .ensures) (c .before .before .before .before .before .before .enum-told .given .1) (c .before .before .before .before .before .before .before .before .before .before .before .before .before .pre .2)
+rewrite-text-requires c κs =
+    let marked = c .before .before .before .before in
+    let tested = marked .before .before .before .before in
+    rewrite-ready (tested .before .before .before .before .before .pre) (tested .bad-step .ensures) (marked .before .before .enum-told .given .1) (marked .mark-folded .ensures)
 
 same-length-2 : tie.Need-same-length-2
 same-length-2 c = search needs
@@ -39,7 +41,10 @@ same-length-3 : tie.Need-same-length-3
 same-length-3 c = search needs
 
 returns-2 : tie.Need-returns-2
-returns-2 c = fold-good (c .before .before .before .before .before .before .before .before .before .before .before .before .before .before .before .before .before .before .pre .0) (c .before .before .before .before .before .before .before .before .before .before .before .before .before .bad-step .ensures) (c .before .before .before .before .before .before .before .before .before .before .before .enum-told .given .1) (c .before .before .before .before .before .before .before .before .before .mark-folded .ensures) (c .before .before .before .before .rewrite-text .ensures)
+returns-2 c =
+    let marked = c .before .before .before .before .before .before .before .before .before in
+    let tested = marked .before .before .before .before in
+    fold-good (tested .before .before .before .before .before .pre .0) (tested .bad-step .ensures) (marked .before .before .enum-told .given .1) (marked .mark-folded .ensures) (search)
 
 pub fold-text-spec : {M : Type 1} → statement M
 fold-text-spec =

@@ -1,9 +1,7 @@
 -- `normalize::services::answer_normalize` meets its contract: the text is refused, or its tables are answered. Assumes nothing.
-use mathlib.Core.Path.{_∙_, refl}
 use borrow.Author.Needs.{needs}
-use Rattle.reader.proofs.Serving.{was-read}
+use Rattle.normalize.proofs.Admitted.{input-loaded}
 use Rattle.normalize.proofs.Deciding.{text-refused, text-answered}
-use Rattle.normalize.proofs.Admitted.{read-loaded}
 use Rattle.normalize.proofs.services.answer_normalize.Statement.{statement}
 use Rattle.normalize.proofs.services.answer_normalize.Tie as tie
 
@@ -26,10 +24,10 @@ same-length : tie.Need-same-length
 same-length c = search needs
 
 returns : tie.Need-returns
-returns c = text-refused _ (c .before .before .before .before .before .before .parse-gfa .ensures) (c .before .before .enum-told .given .1) (c .refused .ensures .0 ∙ c .before .refused-with .ensures) (c .refused .ensures .1) refl
+returns c = search text-refused
 
 answer-tables-requires : tie.Need-answer-tables-requires
-answer-tables-requires c κs = read-loaded (was-read (c .before .before .before .before .before .before .before .parse-gfa .ensures) (c .before .before .before .input .given .1))
+answer-tables-requires c κs = search input-loaded
 
 same-length-2 : tie.Need-same-length-2
 same-length-2 c = search needs
@@ -38,7 +36,7 @@ same-length-3 : tie.Need-same-length-3
 same-length-3 c = search needs
 
 returns-2 : tie.Need-returns-2
-returns-2 c = text-answered _ (was-read (c .before .before .before .before .before .before .before .before .before .before .before .before .parse-gfa .ensures) (c .before .before .before .before .before .before .before .before .input .given .1)) (c .before .before .before .before .answer-tables .ensures)
+returns-2 c = search text-answered
 
 pub answer-normalize-spec : {M : Type 1} → statement M
 answer-normalize-spec =

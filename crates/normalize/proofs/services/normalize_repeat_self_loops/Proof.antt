@@ -17,8 +17,7 @@ same-length-2 : tie.Need-same-length-2
 same-length-2 c = search needs
 
 returns : tie.Need-returns
-returns c = normalized _ _ _ (c .before .before .before .before .before .before .before .before .answer-normalize .last .1 .1 .1 .0) (c .before .before .before .before .before .before .before .before .answer-normalize .ensures) (c .before .before .clear .ensures) (search needs)
+returns c = search normalized
 
 pub normalize-repeat-self-loops-spec : {M : Type 1} → statement M
-normalize-repeat-self-loops-spec =
-    tie.close (tie.spec answer-normalize-requires clear-requires same-length same-length-2 returns)
+normalize-repeat-self-loops-spec = tie.close (tie.spec answer-normalize-requires clear-requires same-length same-length-2 returns)

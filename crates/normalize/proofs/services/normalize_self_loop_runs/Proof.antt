@@ -1,5 +1,6 @@
 -- `normalize::services::normalize_self_loop_runs` meets its contract. Assumes nothing.
 use borrow.Author.Needs.{needs}
+use Rattle.normalize.proofs.Demand.{capped}
 use Rattle.normalize.proofs.services.normalize_self_loop_runs.Statement.{statement}
 use Rattle.normalize.proofs.services.normalize_self_loop_runs.Tie as tie
 
@@ -16,9 +17,7 @@ same-length-2 : tie.Need-same-length-2
 same-length-2 c = search needs
 
 returns : tie.Need-returns
-returns c = rw (c .before .before .before .before .before .before .before .new .ensures) at (c .before .before .before .before .normalize-repeat-self-loops .ensures)
+returns c = search capped
 
 pub normalize-self-loop-runs-spec : {M : Type 1} → statement M
-normalize-self-loop-runs-spec =
-    tie.close
-    (tie.spec new-requires normalize-repeat-self-loops-requires same-length same-length-2 returns)
+normalize-self-loop-runs-spec = tie.close (tie.spec new-requires normalize-repeat-self-loops-requires same-length same-length-2 returns)
