@@ -12,7 +12,7 @@ use Rattle.writers.proofs.Writing.{Writing, writing-start, writing-more, writin
 use Rattle.writers.proofs.Joining.{ended-append}
 use Rattle.report_spec.specs.Lines.{nodeLines}
 use Rattle.ranks.specs.Ranking.{numsAt}
-use Rattle.node_lines.specs.NodeLines.{nodeIn, listed, Listed}
+use Rattle.node_lines.specs.NodeLines.{nodeIn, listed, Listed, Printable}
 use Rattle.ranks.proofs.Merges.{nums-cons, nums-none}
 
 -- the lines of the nodes from number k on
@@ -24,6 +24,10 @@ pub record Listing (limit : ℕ) (first : List ℕ) (at : ℕ) (text work : List
   pub rows : Listed text work b n nums count
   pub high : k ≤ count
   pub writing : Writing limit first at out next (ended (join (map nodeLines (listed text work b n nums count)))) (linesFrom text work b n nums count k)
+
+-- the node of number k can be written
+pub listed-row : {text work : List ℕ} {b : Bases} {n : Counts} {nums count k v : ℕ} → Listed text work b n nums count → k < count → v ≡ getD work (nums + k) 0 → Printable text work b n v
+listed-row l h e = rw e (l .rows _ h)
 
 module _ {limit at : ℕ} {first text work : List ℕ} {b : Bases} {n : Counts} {nums count : ℕ} where
   pub listing-start : (at ≤ limit) × Listed text work b n nums count → Listing limit first at text work b n nums count first at 0

@@ -1,5 +1,5 @@
 -- Pieces of a node's lines. Assumes nothing.
-use Prim.Native.Nat.{ℕ, zero, suc, _+_, _-_, _≤_, _<_}
+use Prim.Native.Nat.{ℕ, zero, suc, _+_, _-_, _/_, _%_, _≤_, _<_}
 use native.Mathlib.Decide.{ℕ-discrete}
 use native.Mathlib.Omega.{arith}
 use mathlib.Core.Bool.{Bool, true, cond, _&&_}
@@ -7,7 +7,7 @@ use mathlib.Core.List.{List, [], _∷_, _++_, map, append-assoc, append-nil}
 use mathlib.Core.Path.{_≡_, refl, sym, ap, _∙_}
 use lib.Dec.{eqb}
 use lib.ListN.{length}
-use borrow.Author.Tests.{ne-eqb}
+use borrow.Author.Tests.{eq-eqb, ne-eqb}
 use Rattle.gfa_spec.specs.Bytes.{Part, bytes, bytesOf, same, star, nth, part, join, joinWith, endLine, ended}
 use Rattle.gfa_spec.specs.Reading.{Step, Kind, P, W, fields, nowhere}
 use Rattle.gfa_spec.proofs.Tests.{and-left, and-right, same-equal}
@@ -25,7 +25,7 @@ use Rattle.report_spec.specs.Lines.{nodeLines}
 use Rattle.nodes.specs.declared.counters.Counter.{Counter}
 use Rattle.nodes.specs.declared.nodes.NodeWords.{NodeWords}
 use Rattle.nodes.specs.Table.{counterNo, NodeRead}
-use Rattle.node_lines.specs.NodeLines.{hasPair, pairsFrom, pairPiece, nameColumn, pathFrom, nodeFrom, nodeIn}
+use Rattle.node_lines.specs.NodeLines.{hasPair, pairsFrom, pairPiece, nameColumn, pathFrom, nodeFrom, nodeIn, Printable, RowReady}
 
 -- ---- orientation pairs
 
@@ -56,6 +56,16 @@ computed = refl
 pub pairs-pieces : (bits : ℕ) → bits < 16 → joinWith 44 (pairsFrom bits) ≡ pairPiece bits 1 43 43 ++ (pairPiece bits 2 43 45 ++ (pairPiece bits 4 45 43 ++ pairPiece bits 8 45 45))
 unfolding right piecesOf
 pairs-pieces bits h = same-equal (joinWith 44 (pairsFrom bits)) (piecesOf bits) (below-at 16 bits computed h)
+
+-- a pair that is there, the first or behind another
+module _ {limit at next : ℕ} {out out' : List ℕ} (bits weight a b : ℕ) where
+  pub pair-first : bits / weight % 2 ≡ 1 → bits % weight ≡ 0 → Wrote limit out at (a ∷ b ∷ []) out' next → Wrote limit out at (pairPiece bits weight a b) out' next
+  unfolding pairPiece hasPair
+  pair-first e f w = rw (eq-eqb (bits / weight % 2) 1 e, eq-eqb (bits % weight) 0 f) w
+
+  pub pair-next : bits / weight % 2 ≡ 1 → (bits % weight ≡ 0 → ⊥) → Wrote limit out at (44 ∷ a ∷ b ∷ []) out' next → Wrote limit out at (pairPiece bits weight a b) out' next
+  unfolding pairPiece hasPair
+  pair-next e f w = rw (eq-eqb (bits / weight % 2) 1 e, ne-eqb (bits % weight) 0 f) w
 
 -- ---- the name of a path
 
@@ -100,8 +110,11 @@ found-inside {text} {start} {size} {k} {a} {l} f e = go (rw e at (f .says))
     go : FoundAt text start size k a l → a + l ≤ length text
     go q = q .inside
 
-module _ {text work : List ℕ} {b : Bases} {n : Counts} {number : ℕ} {p : PathWords} {r : Field} (some : number ≡ 0 → ⊥) (is : PathIs text work b n (number - 1) p)
-    (f : FieldIs text (p .line .start) (p .line .size) (nameColumn (kindIn (p .kind))) r) where
+module _ {text work : List ℕ} {b : Bases} {n : Counts} {number column : ℕ} {p : PathWords} {r : Field} (some : number ≡ 0 → ⊥) (is : PathIs text work b n (number - 1) p)
+    (k : column ≡ nameColumn (kindIn (p .kind))) (g : FieldIs text (p .line .start) (p .line .size) column r) where
+  f : FieldIs text (p .line .start) (p .line .size) (nameColumn (kindIn (p .kind))) r
+  f = rw k at g
+
   its-fields : List Part
   its-fields = fields (partAt text (p .line .start) (p .line .size))
 
@@ -132,8 +145,15 @@ pub thirteen : (a b c d e f g h i j k l m : List ℕ) →
 unfolding ended join
 thirteen a b c d e f g h i j k l m = simp (append-assoc, append-nil)
 
--- the node of row k
-pub node-written : (text : List ℕ) (b : Bases) (n : Counts) {limit at r table k : ℕ} {out out' work : List ℕ} {w : NodeWords} {c : Counter} → table ≡ tablesEnd b n → NodeRead work table k w → c ≡ counterNo work table k
-    → Wrote limit out at (ended (nodeLines (nodeFrom text work b w c))) out' r → Wrote limit out at (ended (nodeLines (nodeIn text work b n k))) out' r
-unfolding nodeIn
-node-written text b n e p q v = rw (← e, ← p .is, ← q) v
+-- the node of row k, which can be written
+module _ (text : List ℕ) (b : Bases) (n : Counts) {table k : ℕ} {work : List ℕ} {w : NodeWords} {c : Counter} (e : table ≡ tablesEnd b n) (p : NodeRead work table k w)
+    (q : c ≡ counterNo work table k) where
+  pub row-ready : Printable text work b n k → RowReady text n w c
+  row-ready h =
+      rw (q, p .is, e)
+      (record { name = h .name; segment = h .segment; bits = h .bits; path = h .path })
+
+  pub node-written : {limit at r : ℕ} {out out' : List ℕ} → Wrote limit out at (ended (nodeLines (nodeFrom text work b w c))) out' r
+      → Wrote limit out at (ended (nodeLines (nodeIn text work b n k))) out' r
+  unfolding nodeIn
+  node-written v = rw (← e, ← p .is, ← q) v

@@ -77,6 +77,13 @@ pub record Printable (text work : List ℕ) (b : Bases) (n : Counts) (k : ℕ) :
   pub bits : nodeNo work (tablesEnd b n) k .bits < 16
   pub path : counterNo work (tablesEnd b n) k .first ≤ n .paths
 
+-- What is asked before a node's row is written: its name is a part of the text, and its segment and its path are there.
+pub record RowReady (text : List ℕ) (n : Counts) (w : NodeWords) (c : Counter) : Type 0 where
+  pub name : Inside text (w .name)
+  pub segment : w .number ≤ n .segs
+  pub bits : w .bits < 16
+  pub path : c .first ≤ n .paths
+
 -- the nodes whose numbers stand from the word `nums` on
 unfoldable pub listed : List ℕ → List ℕ → Bases → Counts → ℕ → ℕ → List Node
 listed text work b n nums count = map (nodeIn text work b n) (numsAt work nums count)

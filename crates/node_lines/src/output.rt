@@ -9,7 +9,7 @@ ghost use Rattle.tables.specs.Paths.{kindIn};
 ghost use Rattle.writers.specs.Writers.{Wrote};
 ghost use Rattle.report_spec.specs.Lines.{line, number as numberLine, nodeLines};
 ghost use Rattle.ranks.specs.Ranking.{orderFrom};
-ghost use Rattle.node_lines.specs.NodeLines.{pairsFrom, pairPiece, previewFrom, pathFrom, nameColumn, nodeIn, Printable, listed, Listed};
+ghost use Rattle.node_lines.specs.NodeLines.{pairsFrom, pairPiece, previewFrom, pathFrom, nameColumn, nodeFrom, nodeIn, Printable, RowReady, listed, Listed};
 use nodes::counters::Counter;
 use nodes::counters::counter_at;
 use nodes::nodes::NodeWords;
@@ -181,7 +181,29 @@ pub fn put_links(out: &mut [u8], at: usize, limit: usize, w: NodeWords) -> usize
     put_pairs(out, first, limit, w.bits)
 }
 
-// The thirteen lines of node `k`.
+// The thirteen lines of a node, by the words of its row.
+pub fn put_row(
+    out: &mut [u8],
+    at: usize,
+    limit: usize,
+    text: &[u8],
+    work: &[u32],
+    b: Bases,
+    n: Counts,
+    w: NodeWords,
+    c: Counter,
+) -> usize
+    requires { ⌜ Readable (now text) (now work) b n × RowReady (now text) n w c ⌝ }
+    ensures { λ r. ⌜ Wrote limit (now (out .entry)) at (ended (nodeLines (nodeFrom (now (text .entry)) (now (work .entry)) b w c))) (now (out .exit)) r ⌝ }
+{
+    let first = put_names(out, at, limit, text, w);
+    let second = put_preview_line(out, first, limit, text, work, b, n, w.number);
+    let third = put_links(out, second, limit, w);
+    let fourth = put_counts(out, third, limit, c);
+    put_path_line(out, fourth, limit, text, work, b, n, c.first)
+}
+
+// The lines of node `k`.
 pub fn put_node(
     out: &mut [u8],
     at: usize,
@@ -198,11 +220,7 @@ pub fn put_node(
     let table = tables_end(work, b, n);
     let w = node_at(work, table, k);
     let c = counter_at(work, table, k);
-    let first = put_names(out, at, limit, text, w);
-    let second = put_preview_line(out, first, limit, text, work, b, n, w.number);
-    let third = put_links(out, second, limit, w);
-    let fourth = put_counts(out, third, limit, c);
-    put_path_line(out, fourth, limit, text, work, b, n, c.first)
+    put_row(out, at, limit, text, work, b, n, w, c)
 }
 
 // The lines of the nodes whose numbers stand from the word `nums` on.

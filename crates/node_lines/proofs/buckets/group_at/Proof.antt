@@ -34,11 +34,10 @@ node-at-requires-2 c κs = number-room (c .before .before .loop .inv .numbered) 
 
 returns : tie.Need-returns Inv-loop μ-loop
 returns c =
-    let loop = c .before .before .before .before .before .loop in
-    let word2 = c .before .before .before .word2 in
-    let node-at2 = c .before .before .node-at2 in
-    let loop-test = c .before .before .before .before .loop-test in
-    grouping-stop (loop .inv) (word2 .ensures) (node-at2 .ensures) (loop-test .taken) (c .if1 .taken)
+    let read = c .before .before in
+    let number = read .before in
+    let test = number .before in
+    grouping-stop (test .before .loop .inv) (number .word2 .ensures) (read .node-at2 .ensures) (test .loop-test .taken) (c .if1 .taken)
 
 add-links : tie.Need-add-links Inv-loop μ-loop
 add-links c = search needs
@@ -51,12 +50,11 @@ loop-less c = search needs
 
 loop-again : tie.Need-loop-again Inv-loop μ-loop
 loop-again c =
-    let loop = c .before .before .before .before .before .before .loop in
-    let word2 = c .before .before .before .before .word2 in
-    let node-at2 = c .before .before .before .node-at2 in
-    let loop-test = c .before .before .before .before .before .loop-test in
-    let if1 = c .before .if1 in
-    grouping-more (loop .inv) (word2 .ensures) (node-at2 .ensures) (loop-test .taken) (if1 .left)
+    let same = c .before in
+    let read = same .before .before in
+    let number = read .before in
+    let test = number .before in
+    grouping-more (test .before .loop .inv) (number .word2 .ensures) (read .node-at2 .ensures) (test .loop-test .taken) (same .if1 .left)
 
 returns-2 : tie.Need-returns-2 Inv-loop μ-loop
 returns-2 c = search grouping-end

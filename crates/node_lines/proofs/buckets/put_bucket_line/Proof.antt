@@ -38,14 +38,21 @@ same-length c = search needs
 returns : tie.Need-returns
 unfolding bucketOf line joinWith endLine bytes
 returns c =
-    let put-constant = c .before .before .before .before .before .before .before .before .before .before .before .before .before .before .before .before .before .before .before .before .before .before .before .before .before .before .put-constant in
-    let put-decimal = c .before .before .before .before .before .before .before .before .before .before .before .before .before .before .before .before .before .before .before .before .before .before .put-decimal in
-    let put-byte = c .before .before .before .before .before .before .before .before .before .before .before .before .before .before .before .before .before .before .put-byte in
-    let put-decimal2 = c .before .before .before .before .before .before .before .before .before .before .before .before .before .before .put-decimal2 in
-    let put-byte2 = c .before .before .before .before .before .before .before .before .before .before .put-byte2 in
-    let put-decimal3 = c .before .before .before .before .before .before .put-decimal3 in
-    let put-byte3 = c .before .before .put-byte3 in
-    being (simp append-assoc) (put-constant .ensures ▷ put-decimal .ensures ▷ put-byte .ensures ▷ put-decimal2 .ensures ▷ put-byte2 .ensures ▷ put-decimal3 .ensures ▷ put-byte3 .ensures)
+    let last = c .before .before in
+    let links = last .before .before .before .before in
+    let comma = links .before .before .before .before in
+    let nodes = comma .before .before .before .before in
+    let first-comma = nodes .before .before .before .before in
+    let long = first-comma .before .before .before .before in
+    let word = long .before .before .before .before in
+    being (simp append-assoc)
+    (word .put-constant .ensures
+    ▷ long .put-decimal .ensures
+    ▷ first-comma .put-byte .ensures
+    ▷ nodes .put-decimal2 .ensures
+    ▷ comma .put-byte2 .ensures
+    ▷ links .put-decimal3 .ensures
+    ▷ last .put-byte3 .ensures)
 
 pub put-bucket-line-spec : {M : Type 1} → statement M
 put-bucket-line-spec =

@@ -12,10 +12,10 @@ abbrev μ-loop : tie.MeasureT-loop
 μ-loop out₀ at limit work table nums m next₀ i₀ out next i = m - i
 
 loop-holds : tie.Need-loop-holds Inv-loop μ-loop
-loop-holds c = bucketing-start (c .before .before .pre)
+loop-holds c = search bucketing-start
 
 put-bucket-requires : tie.Need-put-bucket-requires Inv-loop μ-loop
-put-bucket-requires c κs = (c .before .before .loop .inv .numbered, c .before .loop-test .taken)
+put-bucket-requires c κs = search needs
 
 loop-less : tie.Need-loop-less Inv-loop μ-loop
 loop-less c = search needs
@@ -27,7 +27,7 @@ same-length : tie.Need-same-length Inv-loop μ-loop
 same-length c = c .before .loop .inv .long
 
 returns : tie.Need-returns Inv-loop μ-loop
-returns c = bucketing-end (c .before .loop .inv) (c .loop-test .left)
+returns c = search bucketing-end
 
 pub put-buckets-spec : {M : Type 1} → statement M
 put-buckets-spec =

@@ -21,7 +21,10 @@ same-length c = search needs
 
 returns : tie.Need-returns
 unfolding ended join line number bytes
-returns c = being (simp append-nil) ((c .before .before .before .before .before .before .put-number-line .ensures) ▷ (c .before .before .put-pairs .ensures))
+returns c =
+    let pairs = c .before .before in
+    let links = pairs .before .before .before .before in
+    being (simp append-nil) (links .put-number-line .ensures ▷ pairs .put-pairs .ensures)
 
 pub put-links-spec : {M : Type 1} → statement M
 put-links-spec =

@@ -34,11 +34,12 @@ same-length c = search needs
 returns : tie.Need-returns
 unfolding ended join line number bytes
 returns c =
-    let order-from = c .before .before .before .before .before .before .before .before .before .before .order-from in
-    let put-value-line = c .before .before .before .before .before .before .before .before .before .before .before .before .before .put-value-line in
-    let put-number-line = c .before .before .before .before .before .before .before .put-number-line in
-    let put-number-line2 = c .before .before .put-number-line2 in
-    being (rw (order-from .ensures) (simp (append-assoc, append-nil))) ((put-value-line .ensures) ▷ (put-number-line .ensures) ▷ (put-number-line2 .ensures))
+    let last = c .before .before in
+    let second = last .before .before .before .before .before in
+    let order = second .before .before .before in
+    let first = order .before .before .before in
+    being (rw (order .order-from .ensures) (simp (append-assoc, append-nil)))
+    (first .put-value-line .ensures ▷ second .put-number-line .ensures ▷ last .put-number-line2 .ensures)
 
 pub put-names-spec : {M : Type 1} → statement M
 put-names-spec =

@@ -1,7 +1,7 @@
 -- `node_lines::output::put_nodes` meets its contract. The loop's invariant is its state at a number. Assumes nothing.
 use Prim.Native.Nat.{_-_}
 use borrow.Author.Needs.{needs}
-use Rattle.node_lines.proofs.Listing.{Listing, listing-start, listing-more, listing-end}
+use Rattle.node_lines.proofs.Listing.{Listing, listed-row, listing-start, listing-more, listing-end}
 use Rattle.node_lines.proofs.output.put_nodes.Statement.{statement}
 use Rattle.node_lines.proofs.output.put_nodes.Tie as tie
 use Rattle.writers.proofs.Writing.{keeps}
@@ -22,10 +22,7 @@ word-requires : tie.Need-word-requires Inv-loop μ-loop
 word-requires c κs = search needs
 
 put-node-requires : tie.Need-put-node-requires Inv-loop μ-loop
-put-node-requires c κs =
-    let loop = c .before .before .before .loop in
-    let loop-test = c .before .before .loop-test in
-    (loop .inv .rows .readable, rw (c .word .ensures) ((loop .inv .rows .rows) _ (loop-test .taken)))
+put-node-requires c κs = (search needs, search listed-row)
 
 add-i : tie.Need-add-i Inv-loop μ-loop
 add-i c = search needs
@@ -35,17 +32,16 @@ loop-less c = search needs
 
 loop-again : tie.Need-loop-again Inv-loop μ-loop
 loop-again c =
-    let loop = c .before .before .before .before .before .before .loop in
-    let loop-test = c .before .before .before .before .before .loop-test in
-    let word = c .before .before .before .word in
-    let put-node = c .before .before .put-node in
-    listing-more (loop .inv) (loop-test .taken) (word .ensures) (put-node .ensures)
+    let written = c .before .before in
+    let number = written .before in
+    let test = number .before .before in
+    listing-more (test .before .loop .inv) (test .loop-test .taken) (number .word .ensures) (written .put-node .ensures)
 
 same-length : tie.Need-same-length Inv-loop μ-loop
 same-length c = keeps (c .before .loop .inv .writing .wrote)
 
 returns : tie.Need-returns Inv-loop μ-loop
-returns c = listing-end (c .before .loop .inv) (c .loop-test .left)
+returns c = search listing-end
 
 pub put-nodes-spec : {M : Type 1} → statement M
 put-nodes-spec =

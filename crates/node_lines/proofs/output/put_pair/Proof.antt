@@ -1,7 +1,8 @@
 -- `node_lines::output::put_pair` meets its contract: the pair is not there, or it is the first, or it is behind another. Assumes nothing.
 use native.Mathlib.Omega.{arith}
 use borrow.Author.Needs.{needs}
-use borrow.Author.Tests.{eq-eqb, ne-eqb}
+use borrow.Author.Tests.{ne-eqb}
+use Rattle.node_lines.proofs.Pieces.{pair-first, pair-next}
 use Rattle.node_lines.proofs.output.put_pair.Statement.{statement}
 use Rattle.node_lines.proofs.output.put_pair.Tie as tie
 use Rattle.node_lines.specs.NodeLines.{hasPair, pairPiece}
@@ -27,12 +28,7 @@ same-length : tie.Need-same-length
 same-length c = search needs
 
 returns-2 : tie.Need-returns-2
-unfolding pairPiece hasPair
-returns-2 c =
-    let if1 = c .before .before .before .before .before .before .if1 in
-    let if2 = c .before .before .before .before .before .if2 in
-    let put-constant = c .before .before .put-constant in
-    rw (eq-eqb _ 1 (if1 .left), eq-eqb _ 0 (if2 .taken)) (put-constant .ensures)
+returns-2 c = search pair-first
 
 slice-aggregate-put-constant-2 : tie.Need-slice-aggregate-put-constant-2
 slice-aggregate-put-constant-2 c = search needs
@@ -44,12 +40,7 @@ same-length-2 : tie.Need-same-length-2
 same-length-2 c = search needs
 
 returns-3 : tie.Need-returns-3
-unfolding pairPiece hasPair
-returns-3 c =
-    let if1 = c .before .before .before .before .before .before .if1 in
-    let if2 = c .before .before .before .before .before .if2 in
-    let put-constant2 = c .before .before .put-constant2 in
-    rw (eq-eqb _ 1 (if1 .left), ne-eqb _ 0 (if2 .left)) (put-constant2 .ensures)
+returns-3 c = search pair-next
 
 pub put-pair-spec : {M : Type 1} → statement M
 put-pair-spec =

@@ -35,14 +35,19 @@ same-length c = search needs
 returns : tie.Need-returns
 unfolding endLine line bytes
 returns c =
-    let pre = c .before .before .before .before .before .before .before .before .before .before .before .before .before .before .before .before .before .before .before .before .before .before .before .before .before .before .pre in
-    let put-constant = c .before .before .before .before .before .before .before .before .before .before .before .before .before .before .before .before .before .before .before .before .before .before .put-constant in
-    let put-pair = c .before .before .before .before .before .before .before .before .before .before .before .before .before .before .before .before .before .before .put-pair in
-    let put-pair2 = c .before .before .before .before .before .before .before .before .before .before .before .before .before .before .put-pair2 in
-    let put-pair3 = c .before .before .before .before .before .before .before .before .before .before .put-pair3 in
-    let put-pair4 = c .before .before .before .before .before .before .put-pair4 in
-    let put-byte = c .before .before .put-byte in
-    being (rw (pairs-pieces _ pre) (simp append-assoc)) (put-constant .ensures ▷ put-pair .ensures ▷ put-pair2 .ensures ▷ put-pair3 .ensures ▷ put-pair4 .ensures ▷ put-byte .ensures)
+    let last = c .before .before in
+    let fourth = last .before .before .before .before in
+    let third = fourth .before .before .before .before in
+    let second = third .before .before .before .before in
+    let first = second .before .before .before .before in
+    let word = first .before .before .before .before in
+    being (rw (pairs-pieces _ (word .before .before .before .before .pre)) (simp append-assoc))
+    (word .put-constant .ensures
+    ▷ first .put-pair .ensures
+    ▷ second .put-pair2 .ensures
+    ▷ third .put-pair3 .ensures
+    ▷ fourth .put-pair4 .ensures
+    ▷ last .put-byte .ensures)
 
 pub put-pairs-spec : {M : Type 1} → statement M
 put-pairs-spec =

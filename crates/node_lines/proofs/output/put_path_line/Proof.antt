@@ -21,7 +21,10 @@ same-length c = search needs
 
 returns : tie.Need-returns
 unfolding line bytes pathFrom
-returns c = being (rw ((c .before .before .before .before .before .if1 .taken), no-part)) (c .before .before .put-value-line .ensures)
+returns c =
+    let written = c .before .before in
+    let none = written .before .before .before in
+    being (rw (none .if1 .taken, no-part)) (written .put-value-line .ensures)
 
 sub-t21 : tie.Need-sub-t21
 sub-t21 c = search needs
@@ -55,20 +58,38 @@ same-length-2 c = search needs
 
 returns-2 : tie.Need-returns-2
 unfolding line bytes
-returns-2 c = being (ap (λ v. endLine (bytes "max_repeat_run_path" ++ (61 ∷ v))) (path-missing (c .before .before .before .before .before .before .before .before .before .before .if1 .left) (c .before .before .before .before .before .before .before .before .before .path-at .ensures) (rw (c .before .before .before .before .before .before .before .before .name-column .ensures) at (c .before .before .before .before .before .before .before .field-at .ensures)) (c .before .before .before .before .before .enum-told .given .1))) (c .before .before .put-value-line2 .ensures)
+returns-2 c =
+    let written = c .before .before in
+    let told = written .before .before .before in
+    let field = told .before .before in
+    let column = field .before in
+    let path = column .before in
+    let some = path .before in
+    let name = path-missing (some .if1 .left) (path .path-at .ensures) (column .name-column .ensures) (field .field-at .ensures) (told .enum-told .given .1) in
+    being (ap (λ v. endLine (bytes "max_repeat_run_path" ++ (61 ∷ v))) name) (written .put-value-line2 .ensures)
 
 slice-aggregate-put-value-line-3 : tie.Need-slice-aggregate-put-value-line-3
 slice-aggregate-put-value-line-3 c = search needs
 
 put-value-line-requires-3 : tie.Need-put-value-line-requires-3
-put-value-line-requires-3 c κs = found-inside (c .before .before .before .before .before .field-at .ensures) (c .before .before .before .name .given .1)
+put-value-line-requires-3 c κs =
+    let told = c .before .before .before in
+    found-inside (told .before .before .field-at .ensures) (told .name .given .1)
 
 same-length-3 : tie.Need-same-length-3
 same-length-3 c = search needs
 
 returns-3 : tie.Need-returns-3
 unfolding line bytes
-returns-3 c = being (ap (λ v. endLine (bytes "max_repeat_run_path" ++ (61 ∷ v))) (path-found (c .before .before .before .before .before .before .before .before .before .before .before .if1 .left) (c .before .before .before .before .before .before .before .before .before .before .path-at .ensures) (rw (c .before .before .before .before .before .before .before .before .before .name-column .ensures) at (c .before .before .before .before .before .before .before .before .field-at .ensures)) (c .before .before .before .before .before .before .name .given .1))) (c .before .before .put-value-line3 .ensures)
+returns-3 c =
+    let written = c .before .before in
+    let told = written .before .before .before .before in
+    let field = told .before .before in
+    let column = field .before in
+    let path = column .before in
+    let some = path .before in
+    let name = path-found (some .if1 .left) (path .path-at .ensures) (column .name-column .ensures) (field .field-at .ensures) (told .name .given .1) in
+    being (ap (λ v. endLine (bytes "max_repeat_run_path" ++ (61 ∷ v))) name) (written .put-value-line3 .ensures)
 
 pub put-path-line-spec : {M : Type 1} → statement M
 put-path-line-spec =

@@ -23,10 +23,10 @@ same-length c = search needs
 returns : tie.Need-returns
 unfolding endLine line bytes previewFrom
 returns c =
-    let if1 = c .before .before .before .before .if1 in
-    let put-constant = c .before .before .before .before .before .before .before .put-constant in
-    let put-byte = c .before .before .put-byte in
-    being (rw (if1 .taken)) ((put-constant .ensures) ▷ (put-byte .ensures))
+    let last = c .before .before in
+    let none = last .before .before in
+    let word = none .before .before .before in
+    being (rw (none .if1 .taken)) (word .put-constant .ensures ▷ last .put-byte .ensures)
 
 sub-t20 : tie.Need-sub-t20
 sub-t20 c = search needs
@@ -49,12 +49,13 @@ same-length-2 c = search needs
 returns-2 : tie.Need-returns-2
 unfolding endLine line bytes previewFrom
 returns-2 c =
-    let if1 = c .before .before .before .before .before .before .before .before .before .if1 in
-    let segment-at = c .before .before .before .before .before .before .before .before .segment-at in
-    let put-constant = c .before .before .before .before .before .before .before .before .before .before .before .before .put-constant in
-    let put-preview = c .before .before .before .before .before .before .put-preview in
-    let put-byte2 = c .before .before .put-byte2 in
-    being (rw (ne-eqb _ 0 (if1 .left), segment-at .ensures .segment)) ((put-constant .ensures) ▷ (put-preview .ensures) ▷ (put-byte2 .ensures))
+    let last = c .before .before in
+    let preview = last .before .before .before .before in
+    let found = preview .before .before in
+    let some = found .before in
+    let word = some .before .before .before in
+    being (rw (ne-eqb _ 0 (some .if1 .left), found .segment-at .ensures .segment))
+    (word .put-constant .ensures ▷ preview .put-preview .ensures ▷ last .put-byte2 .ensures)
 
 pub put-preview-line-spec : {M : Type 1} → statement M
 put-preview-line-spec =
