@@ -45,7 +45,11 @@ module _ {limit at : ℕ} {first text work : List ℕ} {b : Bases} {n : Counts} 
         record { rows = s .rows; high = omega arith; writing = writing-more (s .writing) cut (rw e at w) }
       where
         cut : linesFrom text work b n nums count k ≡ ended (nodeLines (nodeIn text work b n (getD work (nums + k) 0))) ++ linesFrom text work b n nums count (k + 1)
-        cut = rw (nums-cons work nums k count h) (unfold join in ended-append (nodeLines (nodeIn text work b n (getD work (nums + k) 0))) (join (map nodeLines (map (nodeIn text work b n) (numsAt work (nums + (k + 1)) (count - (k + 1)))))))
+        cut =
+            rw (nums-cons work nums k count h)
+            (unfold join in
+            ended-append (nodeLines (nodeIn text work b n (getD work (nums + k) 0)))
+            (join (map nodeLines (map (nodeIn text work b n) (numsAt work (nums + (k + 1)) (count - (k + 1)))))))
 
     pub listing-end : count ≤ k → Wrote limit first at (ended (join (map nodeLines (listed text work b n nums count)))) out next
     unfolding linesFrom

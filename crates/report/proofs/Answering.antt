@@ -1,6 +1,7 @@
 -- The report is written, and answered. Assumes nothing.
 use Prim.Native.Nat.{ℕ, _+_, _≤_, _<_, min}
 use native.Mathlib.Omega.{arith}
+use mathlib.Core.Bool.{Bool}
 use mathlib.Core.List.{List, map, append-assoc}
 use mathlib.Core.Option.{Option, none, some}
 use mathlib.Core.Path.{_≡_, refl, ap, _∙_}
@@ -22,21 +23,23 @@ use Rattle.tables.specs.ByNumber.{segmentsOf, linksTo, tablesEnd}
 use Rattle.tables.specs.Entries.{entriesAt}
 use Rattle.reader.specs.Inputs.{stated, InputRead, InputIs}
 use Rattle.reader.specs.Served.{Answered, refusedWith}
-use Rattle.reader.proofs.Serving.{refuses, gives}
+use Rattle.reader.proofs.Serving.{refuses, gives, was-read}
 use Rattle.runs.proofs.Totals.{readable, over-entries}
 use Rattle.writers.specs.Writers.{Wrote}
 use Rattle.writers.proofs.Writing.{being, _▷_, measured, measured-long, written}
 use Rattle.report_spec.specs.Nodes.{nodes, nodeOf}
 use Rattle.report_spec.specs.Services.{reportEntries, reportText}
 use Rattle.report.specs.declared.totals.Totals.{Totals}
+use Rattle.report.specs.declared.totals.Areas.{Areas}
+use Rattle.tables.specs.Tables.{Readable}
 use Rattle.nodes.specs.Table.{nameNo, linksAmong}
 use Rattle.tables.proofs.ByNumber.{links-length, segments-length, paths-length}
 use Rattle.tally.specs.Tabled.{Tabled}
-use Rattle.ranks.specs.declared.ranking.Order.the-variants.{Lengths, Ranks}
-use Rattle.ranks.specs.Ranking.{nodeKey, goesBy, upTo}
+use Rattle.ranks.specs.Ranking.{numsAt, upTo}
+use Rattle.ranks.specs.Sorting.{sortBy}
 use Rattle.node_lines.specs.NodeLines.{nodeIn, Printable, listed, Listed}
 use Rattle.node_lines.specs.Groups.{buckets, RowNumbers, Sized, BucketsIs}
-use Rattle.report.specs.Totals.{lengthsOf, ranksOf, Ranked, TotalsIs, totalLines, reportFrom, Reportable}
+use Rattle.report.specs.Totals.{lengthsOf, ranksOf, areasOf, Ranked, TotalsIs, totalLines, reportFrom, Reportable}
 use Rattle.ranks.proofs.Sorting.{sort-each}
 use Rattle.nodes.proofs.Pairs.{bits-small}
 use Rattle.ranks.proofs.Merges.{nums-below}
@@ -53,37 +56,40 @@ unfolding wordOf
 word-small none n h = omega arith
 word-small (some k) n h = h k refl
 
-module _ {text w : List ℕ} {b : Bases} {n : Counts} {m : ℕ} (v : Reportable text w b n m) where
-  pub numbered : RowNumbers w (tablesEnd b n) (lengthsOf b n) m
+module _ {text w : List ℕ} {b : Bases} {n : Counts} {m : ℕ} {a : Areas} (v : Reportable text w b n m) (e : a ≡ areasOf b n) where
+  pub numbered : RowNumbers w (a .table) (a .lengths) m
   numbered =
-      record {
+      rw e
+      (record {
         room = omega (arith, v .tabled .readable .laid .steps, v .few);
         few = omega (arith, v .tabled .readable .few .2, v .few);
         rows = λ k h. omega (arith, v .lengths k h, v .tabled .readable .laid .steps, v .few);
-      }
+      })
 
-  pub to-list : {count : ℕ} (top : ℕ) → count ≡ min top m → Listed text w b n (ranksOf b n) count
-  to-list top e =
-      record {
+  pub to-list : {count : ℕ} (top : ℕ) → count ≡ min top m → Listed text w b n (a .ranks) count
+  to-list top f =
+      rw e
+      (record {
         readable = v .tabled .readable;
         room = omega (arith, v .tabled .readable .laid .steps, v .few);
         few = omega (arith, v .tabled .readable .few .2, v .few);
         rows = λ k h. v .rows (getD w (ranksOf b n + k) 0) (v .ranks k (omega arith));
-      }
+      })
 
   -- the nodes have their rows' lengths and self-links
   sized : Sized (nodeIn text w b n) w (tablesEnd b n)
   unfolding nodeIn
   sized = record { long = λ i. refl; links = λ i. refl }
 
-  pub whole : (t : Totals) (top : ℕ) {limit r s u count : ℕ} {out o₁ o₂ o₃ : List ℕ} → Wrote limit out 0 (ended (totalLines t m)) o₁ r → BucketsIs limit o₁ r w (tablesEnd b n) (lengthsOf b n) m o₂ s → count ≡ min top m →
-      Wrote limit o₂ s (ended (join (map nodeLines (listed text w b n (ranksOf b n) count)))) o₃ u → Wrote limit out 0 (reportFrom text w b n m t top) o₃ u
+  pub whole : (t : Totals) (top : ℕ) {limit r s u count : ℕ} {out o₁ o₂ o₃ : List ℕ} → Wrote limit out 0 (ended (totalLines t m)) o₁ r
+      → BucketsIs limit o₁ r w (a .table) (a .lengths) m o₂ s → count ≡ min top m
+      → Wrote limit o₂ s (ended (join (map nodeLines (listed text w b n (a .ranks) count)))) o₃ u → Wrote limit out 0 (reportFrom text w b n m t top) o₃ u
   unfolding reportFrom listed
-  whole t top a c e d =
+  whole t top x c f d =
       let totals = ended (totalLines t m) in
       let lengths = ended (buckets (listed text w b n (lengthsOf b n) m)) in
       let ranks = ended (join (map nodeLines (listed text w b n (ranksOf b n) (min top m)))) in
-      being (append-assoc totals lengths ranks) (a ▷ c .wrote (nodeIn text w b n) sized (v .rising) ▷ (rw e at d))
+      being (append-assoc totals lengths ranks) (x ▷ (rw e at c) .wrote (nodeIn text w b n) sized (v .rising) ▷ (rw (e, f) at d))
 
 -- ---- what was ranked can be written
 
@@ -104,24 +110,29 @@ module _ {es : List Entry} {text w w' : List ℕ} {b : Bases} {n : Counts} {m : 
         path = omega (arith, r .counts .row k h .known, paths-length text w b (n .paths));
       }
 
-  pub ranked-reportable : Reportable text w' b n m
+  -- the numbers, in either order, are those of rows
+  numbers-below : (before : ℕ → ℕ → Bool) (at : ℕ) → numsAt w' at m ≡ sortBy before (upTo m) → (k : ℕ) → k < m → getD w' (at + k) 0 < m
+  numbers-below before at e k h = nums-below w' at m m k (rw e (sort-each before (λ i. i < m) (upTo m) (each-up m))) h
+
+  ranked-reportable : Reportable text w' b n m
   ranked-reportable =
       record {
         tabled = ranked-tabled x l r;
         few = few-rows;
         rows = row-printable;
-        lengths = λ k h. nums-below w' (lengthsOf b n) m m k (rw (r .by-length) (sort-each (λ i j. goesBy Lengths (nodeKey w' (tablesEnd b n) i) (nodeKey w' (tablesEnd b n) j)) (λ i. i < m) (upTo m) (each-up m))) h;
-        ranks = λ k h. nums-below w' (ranksOf b n) m m k (rw (r .by-rank) (sort-each (λ i j. goesBy Ranks (nodeKey w' (tablesEnd b n) i) (nodeKey w' (tablesEnd b n) j)) (λ i. i < m) (upTo m) (each-up m))) h;
+        lengths = numbers-below _ (lengthsOf b n) (r .by-length);
+        ranks = numbers-below _ (ranksOf b n) (r .by-rank);
         rising = rw (by-length x l r) (sorted-rising (map (nodeOf es) (nodes es)));
       }
 
 -- ---- measured, and then refused or written
 
 module _ {need : ℕ} {blank blank' out bs : List ℕ} (w : Wrote (length out + 1) blank 0 bs blank' need) where
-  pub full : {out' : List ℕ} {r : Answer} → length out < need → r ≡ record { number = 22; line = 0; from = 0; length = 0 } → out' ≡ out → Answered out out' r (fitted (length out) bs)
-  full h e u = refuses (plainly 22) (fitted (length out) bs) (refused-fitted (length out) bs (measured-long w h)) (unfold plainly in e) u
+  pub full : {r : Answer} → length out < need → r ≡ record { number = 22; line = 0; from = 0; length = 0 } → Answered out out r (fitted (length out) bs)
+  full h e = refuses (plainly 22) (fitted (length out) bs) (refused-fitted (length out) bs (measured-long w h)) (unfold plainly in e) refl
 
-  pub fits : {out' : List ℕ} {next : ℕ} {r : Answer} → need ≤ length out → Wrote (length out + 1) out 0 bs out' next → r ≡ record { number = 0; line = 0; from = 0; length = need } → Answered out out' r (fitted (length out) bs)
+  pub fits : {out' : List ℕ} {next : ℕ} {r : Answer} → need ≤ length out → Wrote (length out + 1) out 0 bs out' next → r ≡ record { number = 0; line = 0; from = 0; length = need }
+      → Answered out out' r (fitted (length out) bs)
   fits h v e =
       let long : need ≡ length bs = measured w h in
       gives bs (fitted (length out) bs) (answer-fitted (length out) bs (omega arith)) (e ∙ rw long) (written (omega arith) (omega arith) v)
@@ -136,16 +147,26 @@ report-refused {text} {before} {out = out} {q = q} top h e f u =
     refuses (stated q) (reportText text top (length out) (length before)) (ap (reportEntries top (length out)) (rw e at (h .says))) (f ∙ ap refusedWith e) u
 
 module _ {text before w : List ℕ} {b : Bases} {n : Counts} (h : InputRead text before w b n) where
-  pub entered : EntriesAre (entriesAt text w b (n .lines)) text w b n
+  entered : EntriesAre (entriesAt text w b (n .lines)) text w b n
   entered = record { of-segments = h .tables .of-segments; of-links = h .tables .of-links; of-paths = h .tables .of-paths }
 
-  pub read-tabled : Tabled text w b n
+  read-tabled : Tabled text w b n
   read-tabled =
       let a = input-entries text (length before) (entriesAt text w b (n .lines)) (h .read) in
       record { readable = readable (h .tables); short = a .short; visits = over-entries (h .tables) length ∙ (unfold stepCount in h .tables .visits) }
 
+module _ {text before w : List ℕ} {k : Input} {b : Bases} {n : Counts} (i : InputIs text before w k) (e : k ≡ input.Tables b n) where
+  pub input-tabled : Tabled text w b n
+  input-tabled = read-tabled (was-read i e)
+
+  pub input-readable : Readable text w b n
+  input-readable = input-tabled .readable
+
+  pub input-reportable : {w' : List ℕ} {m : ℕ} → Ranked text w w' b n m → Reportable text w' b n m
+  input-reportable r = ranked-reportable (entered (was-read i e)) input-tabled r
+
   -- the report is answered
-  pub report-answered : {w' out out' : List ℕ} {m : ℕ} {t : Totals} {a : Answer} (top : ℕ) → TotalsIs text w b n t → Ranked text w w' b n m →
-      Answered out out' a (fitted (length out) (reportFrom text w' b n m t top)) → Answered out out' a (reportText text top (length out) (length before))
+  pub report-answered : {w' out out' : List ℕ} {m : ℕ} {t : Totals} {a : Answer} (top : ℕ) → TotalsIs text w b n t → Ranked text w w' b n m
+      → Answered out out' a (fitted (length out) (reportFrom text w' b n m t top)) → Answered out out' a (reportText text top (length out) (length before))
   unfolding reportText reportEntries
-  report-answered top t r z = rw (h .read) (rw (report-is entered read-tabled r top t) at z)
+  report-answered top t r z = let h = was-read i e in rw (h .read) (rw (report-is (entered h) (read-tabled h) r top t) at z)

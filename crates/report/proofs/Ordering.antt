@@ -20,7 +20,8 @@ use Rattle.ranks.specs.declared.ranking.NodeKey.{NodeKey}
 use Rattle.ranks.specs.declared.ranking.Order.the-variants.{Lengths, Ranks}
 use Rattle.ranks.specs.Ranking.{nodeKey, KeysAre, OrderedIs}
 use Rattle.ranks.proofs.Merges.{nums-kept, key-stands, keys-stand}
-use Rattle.report.specs.Totals.{lengthsOf, ranksOf, areasOf, Ranked}
+use Rattle.report.specs.declared.totals.Areas.{Areas}
+use Rattle.report.specs.Totals.{lengthsOf, ranksOf, areasOf, Orderable, OrderedBoth, Ranked}
 
 -- the table stands where what the links say of each node does
 table-stands : {text : List ℕ} {ss : List Segment} {ls : List Link} {w w' : List ℕ} {table m : ℕ} → ((k : ℕ) → k < m → nodeNo w' table k ≡ nodeNo w table k)
@@ -35,14 +36,14 @@ table-stands {text} {ss} {ls} {w} {w'} {table} {m} same t =
     }
 
 module _ {text w w₁ : List ℕ} {b : Bases} {n : Counts} {m : ℕ} (l : Tabled text w b n) (a : NodesIs text w w₁ b n (n .links) m) where
-  pub nodes-few : m ≤ n .links
+  nodes-few : m ≤ n .links
   nodes-few = omega (arith, a .table .few, links-length text w b (n .links))
 
-  pub nodes-tabled : Tabled text w₁ b n
-  nodes-tabled = tabled-stands l (a .long) (nodes-stand a)
+  now-tabled : Tabled text w₁ b n
+  now-tabled = tabled-stands l (a .long) (nodes-stand a)
 
-  pub nodes-countable : Countable text w₁ (tablesEnd b n) m
-  nodes-countable =
+  now-countable : Countable text w₁ (tablesEnd b n) m
+  now-countable =
       let r = l .readable in
       record {
         names = record { room = omega (arith, r .laid .steps, nodes-few, a .long); few = omega (arith, r .few .2, nodes-few); inside = a .table .inside };
@@ -60,8 +61,8 @@ module _ {text w w₁ : List ℕ} {b : Bases} {n : Counts} {m : ℕ} (l : Tabled
     rows-kept : KeptWords (tablesEnd b n) (nodesEnd (tablesEnd b n) m) w₂ w₄
     rows-kept = record { word = λ i p q. second-kept .word i (omega arith) (omega (arith, nodes-few)) ∙ first-kept .word i (omega arith) (omega (arith, nodes-few)) }
 
-    pub ranked : Ranked text w w₄ b n m
-    ranked =
+    now-ranked : Ranked text w w₄ b n m
+    now-ranked =
         record {
           table = table-stands (λ k h. node-stands rows-kept k h ∙ c .frame .same-node k h) (a .table);
           counts = record { row = λ k h. rw (← paths-stand (l .readable) (nodes-stand a), node-stands rows-kept k h, counter-stands rows-kept k h) (c .rows .row k h) };
@@ -92,3 +93,33 @@ module _ {text w w₁ : List ℕ} {b : Bases} {n : Counts} {m : ℕ} (l : Tabled
 
         mine : KeysAre keys w₂ (tablesEnd b n) m
         mine = record { key = λ i h. sym (key-stands rows-kept i h) }
+
+-- ---- what the passes ask, and what they leave
+
+module _ {text w w₁ : List ℕ} {b : Bases} {n : Counts} {m : ℕ} (a : NodesIs text w w₁ b n (n .links) m) (l : Tabled text w b n) where
+  pub nodes-tabled : Tabled text w₁ b n
+  nodes-tabled = now-tabled l a
+
+  pub nodes-countable : Countable text w₁ (tablesEnd b n) m
+  nodes-countable = now-countable l a
+
+module _ {text w w₁ w₂ : List ℕ} {b : Bases} {n : Counts} {m : ℕ} {areas : Areas} (l : Tabled text w b n) (a : NodesIs text w w₁ b n (n .links) m) (c : PathsCounted text w₁ w₂ b n m)
+    (e : areas ≡ areasOf b n) where
+  pub orderable : Orderable w₂ areas m
+  orderable =
+      let f = nodes-few l a in
+      rw e
+      (record {
+        table = omega (arith, f);
+        lengths = omega (arith, f);
+        ranks = omega (arith, f);
+        room = omega (arith, f, l .readable .laid .steps, a .long, c .frame .long);
+        few = omega (arith, f, l .readable .few .2);
+      })
+
+  pub ranked : {w₃ : List ℕ} → OrderedBoth w₂ w₃ areas m → Ranked text w w₃ b n m
+  ranked o = now-ranked l a c (rw e at (o .by-length)) (rw e at (o .by-rank))
+
+pub ordered-both : {work between work' : List ℕ} {a : Areas} {m : ℕ} → OrderedIs Lengths work between (a .table) m (a .lengths) (a .spare)
+    → OrderedIs Ranks between work' (a .table) m (a .ranks) (a .spare) → OrderedBoth work work' a m
+ordered-both d e = record { between = _; by-length = d; by-rank = e; long = e .long ∙ d .long }

@@ -22,7 +22,7 @@ use Rattle.ranks.specs.declared.ranking.Order.the-variants.{Lengths, Ranks}
 use Rattle.ranks.specs.Sorting.{sortBy}
 use Rattle.nodes.specs.Table.{nodesEnd, CountRows, NodeTable}
 use Rattle.tally.specs.Tabled.{Tabled}
-use Rattle.ranks.specs.Ranking.{nodeKey, goesBy, numsAt, upTo}
+use Rattle.ranks.specs.Ranking.{nodeKey, goesBy, numsAt, upTo, OrderedIs}
 use Rattle.node_lines.specs.NodeLines.{listed, Printable}
 use Rattle.node_lines.specs.Groups.{buckets, Rising}
 
@@ -65,6 +65,21 @@ ranksOf b n = lengthsOf b n + n .links
 
 abbrev pub areasOf : Bases → Counts → Areas
 areasOf b n = record { table = tablesEnd b n; lengths = lengthsOf b n; ranks = ranksOf b n; spare = ranksOf b n + n .links }
+
+-- What is asked before m nodes are ordered: their table, their numbers by length and by rank, and words to spare, one behind the other.
+pub record Orderable (work : List ℕ) (a : Areas) (m : ℕ) : Type 0 where
+  pub table : nodesEnd (a .table) m ≤ a .lengths
+  pub lengths : a .lengths + m ≤ a .ranks
+  pub ranks : a .ranks + m ≤ a .spare
+  pub room : a .spare + m ≤ length work
+  pub few : m ≤ 2097152
+
+-- They are ordered by length, and then by rank.
+pub record OrderedBoth (work work' : List ℕ) (a : Areas) (m : ℕ) : Type 0 where
+  pub between : List ℕ
+  pub by-length : OrderedIs Lengths work between (a .table) m (a .lengths) (a .spare)
+  pub by-rank : OrderedIs Ranks between work' (a .table) m (a .ranks) (a .spare)
+  pub long : length work' ≡ length work
 
 -- The nodes are found, counted and ordered, by length and by rank; the tables of the text are kept.
 pub record Ranked (text work work' : List ℕ) (b : Bases) (n : Counts) (m : ℕ) : Type 0 where

@@ -61,7 +61,7 @@ pub fn put_report(
     put_nodes(out, second, limit, text, work, b, n, a.ranks, least(top, m))
 }
 
-// Measures the report on an empty part of the buffer, and writes it where it fits.
+// Measures the report on an empty buffer, and writes it where it fits.
 pub fn write_report(
     out: &mut [u8],
     text: &[u8],
@@ -78,7 +78,8 @@ pub fn write_report(
 {
     let room = out.len();
     let limit = room + 1;
-    let need = put_report(&mut out[..0], limit, text, work, b, n, t, m, top);
+    let mut nothing = [0u8; 0];
+    let need = put_report(&mut nothing, limit, text, work, b, n, t, m, top);
     if room < need {
         return plain(22, 0);
     }

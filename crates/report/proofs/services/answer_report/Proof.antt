@@ -1,8 +1,6 @@
 -- `report::services::answer_report` meets its contract: the text is refused, or reported. Assumes nothing.
 use borrow.Author.Needs.{needs}
-use Rattle.reader.proofs.Serving.{was-read}
-use Rattle.runs.proofs.Totals.{readable}
-use Rattle.report.proofs.Answering.{report-refused, entered, read-tabled, ranked-reportable, report-answered}
+use Rattle.report.proofs.Answering.{report-refused, input-readable, input-tabled, input-reportable, report-answered}
 use Rattle.report.proofs.services.answer_report.Statement.{statement}
 use Rattle.report.proofs.services.answer_report.Tie as tie
 
@@ -25,20 +23,13 @@ returns : tie.Need-returns
 returns c = search report-refused
 
 totals-of-requires : tie.Need-totals-of-requires
-totals-of-requires c κs = readable (was-read (c .before .before .before .before .before .before .parse-gfa .ensures) (c .before .before .input .given .1) .tables)
+totals-of-requires c κs = search input-readable
 
 rank-nodes-requires : tie.Need-rank-nodes-requires
-rank-nodes-requires c κs =
-    let parse-gfa = c .before .before .before .before .before .before .before .before .parse-gfa in
-    let input = c .before .before .before .before .input in
-    read-tabled (was-read (parse-gfa .ensures) (input .given .1))
+rank-nodes-requires c κs = search input-tabled
 
 write-report-requires : tie.Need-write-report-requires
-write-report-requires c κs =
-    let parse-gfa = c .before .before .before .before .before .before .before .before .before .before .before .before .before .parse-gfa in
-    let input = c .before .before .before .before .before .before .before .before .before .input in
-    let rank-nodes = c .before .before .before .before .rank-nodes in
-    let h = was-read (parse-gfa .ensures) (input .given .1) in ranked-reportable (entered h) (read-tabled h) (rank-nodes .ensures)
+write-report-requires c κs = search input-reportable
 
 same-length-2 : tie.Need-same-length-2
 same-length-2 c = search needs
@@ -47,13 +38,7 @@ same-length-3 : tie.Need-same-length-3
 same-length-3 c = search needs
 
 returns-2 : tie.Need-returns-2
-returns-2 c =
-    let parse-gfa = c .before .before .before .before .before .before .before .before .before .before .before .before .before .before .before .before .parse-gfa in
-    let input = c .before .before .before .before .before .before .before .before .before .before .before .before .input in
-    let totals-of = c .before .before .before .before .before .before .before .before .before .totals-of in
-    let rank-nodes = c .before .before .before .before .before .before .before .rank-nodes in
-    let write-report = c .before .before .write-report in
-    report-answered (was-read (parse-gfa .ensures) (input .given .1)) _ (totals-of .ensures) (rank-nodes .ensures) (write-report .ensures)
+returns-2 c = search report-answered
 
 pub answer-report-spec : {M : Type 1} → statement M
 answer-report-spec =

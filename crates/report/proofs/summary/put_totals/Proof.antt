@@ -50,13 +50,19 @@ same-length c = search needs
 returns : tie.Need-returns
 unfolding totalLines ended join line number bytes
 returns c =
-    let put-number-line = c .before .before .before .before .before .before .before .before .before .before .before .before .before .before .before .before .before .before .before .before .before .before .before .before .before .before .before .put-number-line in
-    let put-number-line2 = c .before .before .before .before .before .before .before .before .before .before .before .before .before .before .before .before .before .before .before .before .before .before .put-number-line2 in
-    let put-number-line3 = c .before .before .before .before .before .before .before .before .before .before .before .before .before .before .before .before .before .put-number-line3 in
-    let put-number-line4 = c .before .before .before .before .before .before .before .before .before .before .before .before .put-number-line4 in
-    let put-number-line5 = c .before .before .before .before .before .before .before .put-number-line5 in
-    let put-number-line6 = c .before .before .put-number-line6 in
-    being (simp (append-assoc, append-nil)) (put-number-line .ensures ▷ put-number-line2 .ensures ▷ put-number-line3 .ensures ▷ put-number-line4 .ensures ▷ put-number-line5 .ensures ▷ put-number-line6 .ensures)
+    let six = c .before .before in
+    let five = six .before .before .before .before .before in
+    let four = five .before .before .before .before .before in
+    let three = four .before .before .before .before .before in
+    let two = three .before .before .before .before .before in
+    let one = two .before .before .before .before .before in
+    being (simp (append-assoc, append-nil))
+    (one .put-number-line .ensures
+    ▷ two .put-number-line2 .ensures
+    ▷ three .put-number-line3 .ensures
+    ▷ four .put-number-line4 .ensures
+    ▷ five .put-number-line5 .ensures
+    ▷ six .put-number-line6 .ensures)
 
 pub put-totals-spec : {M : Type 1} → statement M
 put-totals-spec =
