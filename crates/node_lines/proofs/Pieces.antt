@@ -17,15 +17,18 @@ use Rattle.scan.specs.Places.{partAt, FoundAt, FewFields, FieldIs}
 use Rattle.tables.specs.declared.tables.Bases.{Bases}
 use Rattle.tables.specs.declared.tables.Counts.{Counts}
 use Rattle.tables.specs.declared.rows.PathWords.{PathWords}
-use Rattle.tables.specs.ByNumber.{stepsFrom, tablesEnd, PathIs}
+use Rattle.tables.specs.declared.rows.SegmentWords.{SegmentWords}
+use Rattle.tables.specs.ByNumber.{stepsFrom, tablesEnd, bytesIn, SegmentIs, PathIs}
 use Rattle.tables.specs.Paths.{kindIn, pathFields}
 use Rattle.report_spec.specs.Nodes.{pathName}
 use Rattle.writers.specs.Writers.{Wrote}
-use Rattle.report_spec.specs.Lines.{nodeLines}
+use Rattle.writers.proofs.Writing.{being, _▷_}
+use Rattle.gfa_spec.specs.Sequences.{sequencePreview}
+use Rattle.report_spec.specs.Lines.{line, nodeLines}
 use Rattle.nodes.specs.declared.counters.Counter.{Counter}
 use Rattle.nodes.specs.declared.nodes.NodeWords.{NodeWords}
 use Rattle.nodes.specs.Table.{counterNo, NodeRead}
-use Rattle.node_lines.specs.NodeLines.{hasPair, pairsFrom, pairPiece, nameColumn, pathFrom, nodeFrom, nodeIn, Printable, RowReady}
+use Rattle.node_lines.specs.NodeLines.{hasPair, pairsFrom, pairPiece, nameColumn, previewFrom, pathFrom, nodeFrom, nodeIn, Printable, RowReady}
 
 -- ---- orientation pairs
 
@@ -70,7 +73,7 @@ module _ {limit at next : ℕ} {out out' : List ℕ} (bits weight a b : ℕ) whe
 -- ---- the name of a path
 
 -- a part of no bytes
-pub no-part : (text : List ℕ) → part 0 0 text ≡ []
+no-part : (text : List ℕ) → part 0 0 text ≡ []
 unfolding part
 no-part text = refl
 
@@ -123,19 +126,52 @@ module _ {text work : List ℕ} {b : Bases} {n : Counts} {number column : ℕ} {
   named = rw (ne-eqb number 0 some, is .path) (name-of (kindIn (p .kind)) its-fields (stepsFrom text work b (p .first) (p .end)))
 
   -- the name is a field of the line, or there is none
-  pub path-found : {a l : ℕ} → r ≡ Found a l → part a l text ≡ pathFrom text work b number
+  path-found : {a l : ℕ} → r ≡ Found a l → part a l text ≡ pathFrom text work b number
   unfolding its-fields partAt
   path-found {a} {l} e = go (rw e at (f .says))
     where
       go : FoundAt text (p .line .start) (p .line .size) (nameColumn (kindIn (p .kind))) a l → part a l text ≡ pathFrom text work b number
       go q = sym (named ∙ kind-there (kindIn (p .kind)) its-fields (q .more) ∙ ap (λ p. p .bytes) (q .field))
 
-  pub path-missing : r ≡ Missing → part 0 0 text ≡ pathFrom text work b number
+  path-missing : r ≡ Missing → part 0 0 text ≡ pathFrom text work b number
   unfolding its-fields
   path-missing e = no-part text ∙ go (rw e at (f .says))
     where
       go : FewFields text (p .line .start) (p .line .size) (nameColumn (kindIn (p .kind))) → [] ≡ pathFrom text work b number
       go q = sym (named ∙ kind-gone (kindIn (p .kind)) its-fields (q .few))
+
+-- ---- lines of a node
+
+module _ {limit at next : ℕ} {out out' : List ℕ} (text work : List ℕ) (b : Bases) (number : ℕ) where
+  -- the preview: of no segment, or of one
+  pub preview-none : {mid : ℕ} {o : List ℕ} → number ≡ 0 → Wrote limit out at (bytes "sequence_preview=") o mid → Wrote limit o mid (10 ∷ []) out' next
+      → Wrote limit out at (endLine (line (bytes "sequence_preview") (previewFrom text work b number))) out' next
+  unfolding endLine line bytes previewFrom
+  preview-none e w v = being (rw e) (w ▷ v)
+
+  pub preview-some : {mid last : ℕ} {o p : List ℕ} {s : SegmentWords} → (number ≡ 0 → ⊥) → SegmentIs text work b (number - 1) s → Wrote limit out at (bytes "sequence_preview=") o mid
+      → Wrote limit o mid (sequencePreview (bytesIn text (s .sequence))) p last → Wrote limit p last (10 ∷ []) out' next
+      → Wrote limit out at (endLine (line (bytes "sequence_preview") (previewFrom text work b number))) out' next
+  unfolding endLine line bytes previewFrom
+  preview-some some s w v u = being (rw (ne-eqb number 0 some, s .segment)) (w ▷ v ▷ u)
+
+  -- the path: none, or one whose name is not there, or is
+  pub path-none : number ≡ 0 → Wrote limit out at (endLine (bytes "max_repeat_run_path" ++ (61 ∷ part 0 0 text))) out' next
+      → Wrote limit out at (endLine (line (bytes "max_repeat_run_path") (pathFrom text work b number))) out' next
+  unfolding line pathFrom
+  path-none e w = being (rw (e, no-part)) w
+
+  module _ {n : Counts} {column : ℕ} {p : PathWords} {r : Field} (some : number ≡ 0 → ⊥) (is : PathIs text work b n (number - 1) p) (k : column ≡ nameColumn (kindIn (p .kind)))
+      (f : FieldIs text (p .line .start) (p .line .size) column r) where
+    pub path-gone : r ≡ Missing → Wrote limit out at (endLine (bytes "max_repeat_run_path" ++ (61 ∷ part 0 0 text))) out' next
+        → Wrote limit out at (endLine (line (bytes "max_repeat_run_path") (pathFrom text work b number))) out' next
+    unfolding line
+    path-gone e w = being (ap (λ v. endLine (bytes "max_repeat_run_path" ++ (61 ∷ v))) (path-missing some is k f e)) w
+
+    pub path-there : {a l : ℕ} → r ≡ Found a l → Wrote limit out at (endLine (bytes "max_repeat_run_path" ++ (61 ∷ part a l text))) out' next
+        → Wrote limit out at (endLine (line (bytes "max_repeat_run_path") (pathFrom text work b number))) out' next
+    unfolding line
+    path-there e w = being (ap (λ v. endLine (bytes "max_repeat_run_path" ++ (61 ∷ v))) (path-found some is k f e)) w
 
 -- ---- the thirteen lines
 

@@ -1,14 +1,9 @@
 -- `node_lines::output::put_path_line` meets its contract: no path, or the field of its line that holds its name. Assumes nothing.
-use mathlib.Core.List.{_∷_, _++_}
-use mathlib.Core.Path.{ap}
 use borrow.Author.Needs.{needs}
-use Rattle.gfa_spec.specs.Bytes.{bytes, endLine}
-use Rattle.node_lines.proofs.Pieces.{found-inside, path-found, path-missing, no-part}
+use Rattle.gfa_spec.specs.Bytes.{bytes}
+use Rattle.node_lines.proofs.Pieces.{found-inside, path-none, path-gone, path-there}
 use Rattle.node_lines.proofs.output.put_path_line.Statement.{statement}
 use Rattle.node_lines.proofs.output.put_path_line.Tie as tie
-use Rattle.node_lines.specs.NodeLines.{pathFrom}
-use Rattle.report_spec.specs.Lines.{line}
-use Rattle.writers.proofs.Writing.{being}
 
 slice-aggregate-put-value-line : tie.Need-slice-aggregate-put-value-line
 slice-aggregate-put-value-line c = search needs
@@ -20,11 +15,8 @@ same-length : tie.Need-same-length
 same-length c = search needs
 
 returns : tie.Need-returns
-unfolding line bytes pathFrom
-returns c =
-    let written = c .before .before in
-    let none = written .before .before .before in
-    being (rw (none .if1 .taken, no-part)) (written .put-value-line .ensures)
+unfolding bytes
+returns c = search path-none
 
 sub-t21 : tie.Need-sub-t21
 sub-t21 c = search needs
@@ -57,16 +49,8 @@ same-length-2 : tie.Need-same-length-2
 same-length-2 c = search needs
 
 returns-2 : tie.Need-returns-2
-unfolding line bytes
-returns-2 c =
-    let written = c .before .before in
-    let told = written .before .before .before in
-    let field = told .before .before in
-    let column = field .before in
-    let path = column .before in
-    let some = path .before in
-    let name = path-missing (some .if1 .left) (path .path-at .ensures) (column .name-column .ensures) (field .field-at .ensures) (told .enum-told .given .1) in
-    being (ap (λ v. endLine (bytes "max_repeat_run_path" ++ (61 ∷ v))) name) (written .put-value-line2 .ensures)
+unfolding bytes
+returns-2 c = search path-gone
 
 slice-aggregate-put-value-line-3 : tie.Need-slice-aggregate-put-value-line-3
 slice-aggregate-put-value-line-3 c = search needs
@@ -80,16 +64,8 @@ same-length-3 : tie.Need-same-length-3
 same-length-3 c = search needs
 
 returns-3 : tie.Need-returns-3
-unfolding line bytes
-returns-3 c =
-    let written = c .before .before in
-    let told = written .before .before .before .before in
-    let field = told .before .before in
-    let column = field .before in
-    let path = column .before in
-    let some = path .before in
-    let name = path-found (some .if1 .left) (path .path-at .ensures) (column .name-column .ensures) (field .field-at .ensures) (told .name .given .1) in
-    being (ap (λ v. endLine (bytes "max_repeat_run_path" ++ (61 ∷ v))) name) (written .put-value-line3 .ensures)
+unfolding bytes
+returns-3 c = search path-there
 
 pub put-path-line-spec : {M : Type 1} → statement M
 put-path-line-spec =

@@ -1,12 +1,9 @@
 -- `node_lines::output::put_preview_line` meets its contract: no segment, or the preview of its sequence. Assumes nothing.
 use borrow.Author.Needs.{needs}
-use borrow.Author.Tests.{ne-eqb}
-use Rattle.gfa_spec.specs.Bytes.{bytes, endLine}
-use Rattle.report_spec.specs.Lines.{line}
+use Rattle.gfa_spec.specs.Bytes.{bytes}
+use Rattle.node_lines.proofs.Pieces.{preview-none, preview-some}
 use Rattle.node_lines.proofs.output.put_preview_line.Statement.{statement}
 use Rattle.node_lines.proofs.output.put_preview_line.Tie as tie
-use Rattle.node_lines.specs.NodeLines.{previewFrom}
-use Rattle.writers.proofs.Writing.{being, _▷_}
 
 slice-aggregate-put-constant : tie.Need-slice-aggregate-put-constant
 slice-aggregate-put-constant c = search needs
@@ -21,12 +18,8 @@ same-length : tie.Need-same-length
 same-length c = search needs
 
 returns : tie.Need-returns
-unfolding endLine line bytes previewFrom
-returns c =
-    let last = c .before .before in
-    let none = last .before .before in
-    let word = none .before .before .before in
-    being (rw (none .if1 .taken)) (word .put-constant .ensures ▷ last .put-byte .ensures)
+unfolding bytes
+returns c = search preview-none
 
 sub-t20 : tie.Need-sub-t20
 sub-t20 c = search needs
@@ -47,15 +40,8 @@ same-length-2 : tie.Need-same-length-2
 same-length-2 c = search needs
 
 returns-2 : tie.Need-returns-2
-unfolding endLine line bytes previewFrom
-returns-2 c =
-    let last = c .before .before in
-    let preview = last .before .before .before .before in
-    let found = preview .before .before in
-    let some = found .before in
-    let word = some .before .before .before in
-    being (rw (ne-eqb _ 0 (some .if1 .left), found .segment-at .ensures .segment))
-    (word .put-constant .ensures ▷ preview .put-preview .ensures ▷ last .put-byte2 .ensures)
+unfolding bytes
+returns-2 c = search preview-some
 
 pub put-preview-line-spec : {M : Type 1} → statement M
 put-preview-line-spec =
