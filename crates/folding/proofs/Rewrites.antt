@@ -1,5 +1,5 @@
 -- Rules 4 to 7 put together: what the passes left in the tables is the definition's rewritten text, and their counts its statistics. Assumes nothing.
-use Prim.Native.Nat.{ℕ, _+_, _*_, _≤_, _<_}
+use Prim.Native.Nat.{ℕ, _+_, _≤_, _<_}
 use native.Mathlib.Omega.{arith}
 use mathlib.Core.Bool.{Bool, true}
 use mathlib.Core.List.{List, map}
@@ -20,6 +20,7 @@ use Rattle.writers.proofs.Writing.{measured, measured-long, written}
 use Rattle.runs.specs.declared.counts.Pairs.{Pairs}
 use Rattle.tables.specs.declared.tables.Bases.{Bases}
 use Rattle.tables.specs.declared.tables.Counts.{Counts}
+use Rattle.tables.specs.ByNumber.{tablesEnd}
 use Rattle.normalize_tables.specs.declared.layout.Layout.{Layout}
 use Rattle.normalize_tables.specs.declared.layout.Made.{Made}
 use Rattle.normalize_tables.specs.Layout.{Placed, Source}
@@ -71,8 +72,8 @@ module _ {text w v : List ℕ} {b : Bases} {n : Counts} {g : Layout} {m : Made} 
   front : (lo hi : ℕ) → hi ≤ g .last → KeptWords lo hi w v
   front lo hi h = only-kept lo hi (t .only) (inl h, tt)
 
-  text-front : KeptWords (b .lines) (b .steps + 3 * n .steps) w v
-  text-front = front (b .lines) (b .steps + 3 * n .steps) (omega (arith, s .placed))
+  text-front : KeptWords (b .lines) (tablesEnd b n) w v
+  text-front = front (b .lines) (tablesEnd b n) (omega (arith, s .placed))
 
   pub transformed-source : Source text v b n g
   transformed-source = source-stands s text-front (t .long)

@@ -1,5 +1,5 @@
 -- A text of which some segment is folded: what each pass found is what document 01's rules say of the entries. Assumes nothing.
-use Prim.Native.Nat.{ℕ, _+_, _*_, _≤_}
+use Prim.Native.Nat.{ℕ, _+_, _≤_}
 use native.Mathlib.Omega.{arith}
 use mathlib.Core.Bool.{Bool}
 use mathlib.Core.List.{List, [], _∷_}
@@ -23,6 +23,7 @@ use Rattle.spelling.specs.declared.spelling.Steps.{Steps}
 use Rattle.spelling.specs.declared.spelling.Steps.the-variants as steps
 use Rattle.tables.specs.declared.tables.Bases.{Bases}
 use Rattle.tables.specs.declared.tables.Counts.{Counts}
+use Rattle.tables.specs.ByNumber.{tablesEnd}
 use Rattle.reader.specs.Inputs.{stated}
 use Rattle.spelling.specs.Spelled.{BadStepIs}
 use Rattle.normalize_tables.specs.declared.layout.Layout.{Layout}
@@ -51,8 +52,8 @@ keep-length p (x ∷ xs) = by-test (p x) (λ e. rw (e, keep-length p xs)) (λ e.
 
 module _ {text w w' : List ℕ} {b : Bases} {n : Counts} {g : Layout} (s : Source text w b n g) where
   -- marks are behind them
-  pub marks-behind : (from to : ℕ) → g .eligible ≤ from → Only (span from to ∷ []) w w' → KeptWords (b .lines) (b .steps + 3 * n .steps) w w'
-  marks-behind from to l o = only-kept (b .lines) (b .steps + 3 * n .steps) o (inl (omega (arith, s .placed)), tt)
+  pub marks-behind : (from to : ℕ) → g .eligible ≤ from → Only (span from to ∷ []) w w' → KeptWords (b .lines) (tablesEnd b n) w w'
+  marks-behind from to l o = only-kept (b .lines) (tablesEnd b n) o (inl (omega (arith, s .placed)), tt)
 
 -- ---- rule 2
 

@@ -14,10 +14,10 @@ use Rattle.normalize_spec.specs.Counting.{foldedRuns}
 use Rattle.normalize_spec.proofs.Segments.{ids, paths-sound, sound-differ}
 use Rattle.tables.specs.declared.tables.Bases.{Bases}
 use Rattle.tables.specs.declared.tables.Counts.{Counts}
-use Rattle.tables.specs.Segments.{segmentsAt, idsOf}
-use Rattle.tables.specs.Paths.{pathsAt}
+use Rattle.tables.specs.Segments.{idsOf}
 use Rattle.tables.specs.Entries.{entriesAt}
 use Rattle.tables.proofs.Standing.{Standing}
+use Rattle.tables.specs.ByNumber.{segmentsOf, pathsTo}
 use Rattle.normalize_tables.specs.declared.layout.Layout.{Layout}
 use Rattle.normalize_tables.specs.declared.layout.Made.{Made}
 use Rattle.normalize_tables.specs.News.{newsAt, namesAt, newPathsAt, keysAt}
@@ -49,12 +49,12 @@ tied-itself t =
 
 -- no two IDs of segments and new segments are equal
 pub names-apart : {text w : List ℕ} {b : Bases} {n : Counts} {g : Layout} {fs : List Segment} {m : Made} → Folded text w b n g fs m
-    → distinct (idsOf (segmentsAt text w (b .segs) (n .segs))) ≡ true → distinct (namesAt text w b n g (m .first) (m .segs)) ≡ true
+    → distinct (idsOf (segmentsOf text w b n)) ≡ true → distinct (namesAt text w b n g (m .first) (m .segs)) ≡ true
 unfolding namesAt idsOf ids
 names-apart {text} {w} {b} {n} {fs = fs} f d =
     rw (f .news)
-    (sound-differ (segmentsAt text w (b .segs) (n .segs)) _
-    (paths-sound (segmentsAt text w (b .segs) (n .segs)) fs (pathsAt text (b .steps) w (b .paths) (n .paths))) d)
+    (sound-differ (segmentsOf text w b n) _
+    (paths-sound (segmentsOf text w b n) fs (pathsTo text w b (n .paths))) d)
 
 module _ {es : List Entry} (cap : ℕ) {text w : List ℕ} {b : Bases} {n : Counts} {g : Layout} {m : Made} (t : Tied es text w b n) (f : Folded text w b n g (folded es cap) m) where
   -- the new segments

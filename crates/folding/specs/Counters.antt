@@ -9,7 +9,7 @@ use Rattle.normalize_spec.specs.Counting.{Stats}
 use Rattle.runs.specs.declared.counts.Pairs.{Pairs}
 use Rattle.tables.specs.declared.tables.Bases.{Bases}
 use Rattle.tables.specs.declared.tables.Counts.{Counts}
-use Rattle.tables.specs.Links.{linksAt}
+use Rattle.tables.specs.ByNumber.{linksTo}
 use Rattle.runs.specs.Counts.{overRows}
 use Rattle.normalize_tables.specs.declared.layout.Made.{Made}
 use Rattle.relink.specs.declared.settle.Links.{Links}
@@ -61,7 +61,7 @@ noCounters = inputCounters 0 0 0 0
 
 -- The counters of the tables' text, were it returned as it is.
 pub record InputStats (text work : List ℕ) (b : Bases) (n : Counts) (r : NormalizeSelfLoopsStats) : Type 0 where
-  pub counts : counters r ≡ inputCounters (count isSelfLink (linksAt text work (b .links) (n .links))) (overRows (pairs sameNode) text work b n) (overRows (pairs sameStep) text work b n) (n .steps)
+  pub counts : counters r ≡ inputCounters (count isSelfLink (linksTo text work b (n .links))) (overRows (pairs sameNode) text work b n) (overRows (pairs sameStep) text work b n) (n .steps)
 
 -- the counters of a rewritten text: those of the input stay; the others are what the passes counted
 unfoldable pub rewrittenCounters : Stats → ℕ → Made → Links → Pairs → Stats

@@ -6,14 +6,12 @@ use Rattle.gfa_spec.specs.Reading.{Entry}
 use Rattle.gfa_spec.specs.Records.{segments, links, paths}
 use Rattle.tables.specs.declared.tables.Bases.{Bases}
 use Rattle.tables.specs.declared.tables.Counts.{Counts}
-use Rattle.tables.specs.Segments.{segmentsAt}
-use Rattle.tables.specs.Links.{linksAt}
-use Rattle.tables.specs.Paths.{pathsAt}
 use Rattle.tables.specs.Entries.{entriesAt}
+use Rattle.tables.specs.ByNumber.{segmentsOf, linksTo, pathsTo}
 
 -- The tables hold the entries es, their segments, their links and their paths.
 pub record Tied (es : List Entry) (text work : List ℕ) (b : Bases) (n : Counts) : Type 0 where
   pub entries : entriesAt text work b (n .lines) ≡ es
-  pub of-segments : segmentsAt text work (b .segs) (n .segs) ≡ segments es
-  pub of-links : linksAt text work (b .links) (n .links) ≡ links es
-  pub of-paths : pathsAt text (b .steps) work (b .paths) (n .paths) ≡ paths es
+  pub of-segments : segmentsOf text work b n ≡ segments es
+  pub of-links : linksTo text work b (n .links) ≡ links es
+  pub of-paths : pathsTo text work b (n .paths) ≡ paths es

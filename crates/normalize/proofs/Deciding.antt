@@ -1,9 +1,8 @@
 -- Whether some segment is folded, and what is answered to the tables and to the text. Assumes nothing.
-use Prim.Native.Nat.{ℕ, _+_, _*_}
+use Prim.Native.Nat.{ℕ, _+_}
 use native.Mathlib.Omega.{arith}
 use mathlib.Core.Bool.{Bool, true, false, not}
 use mathlib.Core.List.{List, [], _∷_}
-use mathlib.Core.Option.{some}
 use mathlib.Core.Path.{_≡_, refl, sym, ap, _∙_}
 use lib.ListN.{length}
 use Rattle.gfa_spec.specs.Bytes.{isEmpty, any, keep}
@@ -21,6 +20,7 @@ use Rattle.reader.specs.declared.input.Input.the-variants as input
 use Rattle.tables.specs.declared.tables.Bases.{Bases}
 use Rattle.tables.specs.declared.tables.Counts.{Counts}
 use Rattle.tables.specs.Entries.{entriesAt}
+use Rattle.tables.specs.ByNumber.{tablesEnd}
 use Rattle.reader.specs.Inputs.{stated, InputIs}
 use Rattle.runs.specs.Counts.{overRows}
 use Rattle.reader.specs.Served.{refusedWith}
@@ -77,7 +77,7 @@ module _ {text w : List ℕ} {b : Bases} {n : Counts} {g : Layout} (l : Loaded t
   loaded-source = record { readable = l .readable; placed = p; apart = l .apart; visits = omega (arith, l .visits) }
 
   module _ {cap : ℕ} {w' : List ℕ} (m : MarkedIs cap text w w' b n g) where
-    front : KeptWords (b .lines) (b .steps + 3 * n .steps) w w'
+    front : KeptWords (b .lines) (tablesEnd b n) w w'
     front = marks-behind loaded-source (g .eligible) (g .eligible + n .segs) (omega arith) (m .only)
 
     source-behind : Source text w' b n g

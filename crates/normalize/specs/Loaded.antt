@@ -7,9 +7,10 @@ use lib.ListN.{length}
 use Rattle.gfa_spec.specs.Bytes.{isEmpty, distinct}
 use Rattle.tables.specs.declared.tables.Bases.{Bases}
 use Rattle.tables.specs.declared.tables.Counts.{Counts}
-use Rattle.tables.specs.Segments.{segmentsAt, idsOf}
+use Rattle.tables.specs.Segments.{idsOf}
 use Rattle.tables.specs.Entries.{entriesAt}
 use Rattle.tables.specs.Tables.{Readable}
+use Rattle.tables.specs.ByNumber.{segmentsOf}
 use Rattle.runs.specs.Counts.{overRows}
 use Rattle.normalize_spec.specs.Folding.{eligible, folded}
 use Rattle.normalize_spec.specs.Counting.{unchanged}
@@ -24,7 +25,7 @@ use Rattle.normalize.specs.declared.services.Decision.{Decision}
 pub record Loaded (text work : List ℕ) (b : Bases) (n : Counts) : Type 0 where
   pub tied : Tied (entriesAt text work b (n .lines)) text work b n
   pub readable : Readable text work b n
-  pub apart : distinct (idsOf (segmentsAt text work (b .segs) (n .segs))) ≡ true
+  pub apart : distinct (idsOf (segmentsOf text work b n)) ≡ true
   pub visits : overRows length text work b n ≡ n .steps
 
 -- Rules 1 and 2 of the entries of an admitted text: its eligible segments are marked, and it is known whether any segment is folded.
