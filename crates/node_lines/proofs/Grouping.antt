@@ -65,7 +65,7 @@ module _ {work : List ℕ} {table nums m i : ℕ} where
       }
 
   module _ {long links j : ℕ} (s : Grouping work table nums m i long links j) where
-    module _ {v : ℕ} {w : NodeWords} (f : v ≡ getD work (nums + j) 0) (e : NodeRead work table v w) where
+    module _ {v : ℕ} {w : NodeWords} (e : NodeRead work table v w) (f : v ≡ getD work (nums + j) 0) where
       here : w .long ≡ longOf work table nums j
       unfolding longOf
       here = ap (λ a. a .long) (e .is) ∙ ap (λ v. nodeNo work table v .long) f
@@ -114,8 +114,9 @@ module _ {work : List ℕ} {table nums m i : ℕ} where
         }
 
 -- the bucket of a group
-pub bucket-is : {limit at next : ℕ} {out out' work : List ℕ} {table nums m i : ℕ} {g : Group} → GroupIs work table nums m i g → Wrote limit out at (endLine (bucketOf (g .long) (g .end - i) (g .links))) out' next →
-    BucketIs limit out at work table nums m i out' (record { end = g .end; next = next })
+pub bucket-is : {limit at next : ℕ} {out out' work : List ℕ} {table nums m i : ℕ} {g : Group} → GroupIs work table nums m i g
+    → Wrote limit out at (endLine (bucketOf (g .long) (g .end - i) (g .links))) out' next
+    → BucketIs limit out at work table nums m i out' (record { end = g .end; next = next })
 bucket-is q w =
     record {
       low = q .low;
@@ -133,7 +134,10 @@ each-nums P work nums i zero h = unfold numsAt rowsAt in tt
 each-nums P work nums i (suc d) h =
     let e : suc d ≡ d + 1 = omega arith in
     let f : nums + i + d ≡ nums + (i + d) = omega arith in
-    rw (e, nums-snoc work (nums + i) d, f) (each-append P (numsAt work (nums + i) d) (getD work (nums + (i + d)) 0 ∷ []) (each-nums P work nums i d (λ k a b. h k a (omega arith))) (h (i + d) (omega arith) (omega arith), tt))
+    rw (e, nums-snoc work (nums + i) d, f)
+    (each-append P (numsAt work (nums + i) d) (getD work (nums + (i + d)) 0 ∷ [])
+    (each-nums P work nums i d (λ k a b. h k a (omega arith)))
+    (h (i + d) (omega arith) (omega arith), tt))
 
 -- the first node, where there is one
 unfoldable first-node : List Node → List Node
@@ -206,10 +210,15 @@ module _ {limit at : ℕ} {first work : List ℕ} {table nums m : ℕ} where
         halves node =
             let e : m - i ≡ r .end - i + (m - r .end) = omega (arith, q .low, q .high) in
             let f : nums + i + (r .end - i) ≡ nums + r .end = omega (arith, q .low) in
-            ap (λ d. map node (numsAt work (nums + i) d)) e ∙ ap (map node) (nums-split work (nums + i) (r .end - i) (m - r .end)) ∙ map-append node (numsAt work (nums + i) (r .end - i)) (numsAt work (nums + i + (r .end - i)) (m - r .end)) ∙ rw f
+            ap (λ d. map node (numsAt work (nums + i) d)) e
+            ∙ ap (map node) (nums-split work (nums + i) (r .end - i) (m - r .end))
+            ∙ map-append node (numsAt work (nums + i) (r .end - i)) (numsAt work (nums + i + (r .end - i)) (m - r .end))
+            ∙ rw f
 
         cut : (node : ℕ → Node) → Sized node work table → Rising (map node (numsAt work (nums + i) (m - i))) →
-            ended (buckets (map node (numsAt work (nums + i) (m - i)))) ≡ endLine (bucketOf (longOf work table nums i) (r .end - i) (groupLinks work table nums i (r .end - i))) ++ ended (buckets (map node (numsAt work (nums + r .end) (m - r .end))))
+            ended (buckets (map node (numsAt work (nums + i) (m - i))))
+            ≡ endLine (bucketOf (longOf work table nums i) (r .end - i) (groupLinks work table nums i (r .end - i)))
+            ++ ended (buckets (map node (numsAt work (nums + r .end) (m - r .end))))
         cut node z u =
             let ns = numsAt work (nums + i) (r .end - i) in
             let g = map node ns in
@@ -217,12 +226,16 @@ module _ {limit at : ℕ} {first work : List ℕ} {table nums m : ℕ} where
             let n = longOf work table nums i in
             let size : length g ≡ r .end - i = length-map ns node ∙ (unfold numsAt in rows-length wordAt 1 work (nums + i) (r .end - i)) in
             let some : 0 < length g = omega (arith, size, q .low) in
-            let group : Each (λ a. a .sequenceLen ≡ n) g = each-map (λ a. a .sequenceLen ≡ n) node ns (each-nums (λ k. node k .sequenceLen ≡ n) work nums i (r .end - i) (λ k a b. unfold longOf in (z .long (getD work (nums + k) 0) ∙ q .same k a (omega (arith, q .low))))) in
+            let group : Each (λ a. a .sequenceLen ≡ n) g =
+            each-map (λ a. a .sequenceLen ≡ n) node ns
+            (each-nums (λ k. node k .sequenceLen ≡ n) work nums i (r .end - i)
+            (λ k a b. unfold longOf in (z .long (getD work (nums + k) 0) ∙ q .same k a (omega (arith, q .low))))) in
             let all = rw (halves node) at u in
             let over = rising-over n ys (rising-above n g ys some group all) (rising-back g ys all) (next-longer node z (ℕ-discrete (r .end) m)) in
             rw (halves node, buckets-group n g ys some group over, ended-first, size, sized-links node z ns) (unfold groupLinks in refl)
           where
-            next-longer : (node : ℕ → Node) → Sized node work table → Dec (r .end ≡ m) → Each (λ a. a .sequenceLen ≡ longOf work table nums i → ⊥) (first-node (map node (numsAt work (nums + r .end) (m - r .end))))
+            next-longer : (node : ℕ → Node) → Sized node work table → Dec (r .end ≡ m)
+                → Each (λ a. a .sequenceLen ≡ longOf work table nums i → ⊥) (first-node (map node (numsAt work (nums + r .end) (m - r .end))))
             next-longer node z (yes e) = rw (nums-none work nums (r .end) m (omega arith)) (unfold first-node in tt)
             next-longer node z (no e) =
                 let l : r .end < m = omega (arith, q .high) in

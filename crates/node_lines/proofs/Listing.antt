@@ -38,10 +38,10 @@ module _ {limit at : ℕ} {first text work : List ℕ} {b : Bases} {n : Counts} 
       record { rows = h .1; high = omega arith; writing = writing-start (omega (arith, h .0)) (rw (a, c)) }
 
   module _ {out : List ℕ} {next k : ℕ} (s : Listing limit first at text work b n nums count out next k) where
-    pub listing-more : {out' : List ℕ} {r v : ℕ} → k < count → v ≡ getD work (nums + k) 0 → Wrote limit out next (ended (nodeLines (nodeIn text work b n v))) out' r →
+    pub listing-more : {out' : List ℕ} {r v : ℕ} → Wrote limit out next (ended (nodeLines (nodeIn text work b n v))) out' r → v ≡ getD work (nums + k) 0 → k < count →
         Listing limit first at text work b n nums count out' r (k + 1)
     unfolding linesFrom
-    listing-more {out'} {r} {v} h e w =
+    listing-more {out'} {r} {v} w e h =
         record { rows = s .rows; high = omega arith; writing = writing-more (s .writing) cut (rw e at w) }
       where
         cut : linesFrom text work b n nums count k ≡ ended (nodeLines (nodeIn text work b n (getD work (nums + k) 0))) ++ linesFrom text work b n nums count (k + 1)

@@ -9,6 +9,7 @@ use lib.Dec.{eqb}
 use lib.ListN.{length}
 use borrow.Author.Tests.{eq-eqb, ne-eqb}
 use Rattle.gfa_spec.specs.Bytes.{Part, bytes, bytesOf, same, star, nth, part, join, joinWith, endLine, ended}
+use Rattle.gfa_spec.specs.Decimal.{decimal}
 use Rattle.gfa_spec.specs.Reading.{Step, Kind, P, W, fields, nowhere}
 use Rattle.gfa_spec.proofs.Tests.{and-left, and-right, same-equal}
 use Rattle.scan.specs.declared.places.Field.{Field}
@@ -24,10 +25,11 @@ use Rattle.report_spec.specs.Nodes.{pathName}
 use Rattle.writers.specs.Writers.{Wrote}
 use Rattle.writers.proofs.Writing.{being, _▷_}
 use Rattle.gfa_spec.specs.Sequences.{sequencePreview}
-use Rattle.report_spec.specs.Lines.{line, nodeLines}
+use Rattle.report_spec.specs.Lines.{line, number, nodeLines}
 use Rattle.nodes.specs.declared.counters.Counter.{Counter}
 use Rattle.nodes.specs.declared.nodes.NodeWords.{NodeWords}
 use Rattle.nodes.specs.Table.{counterNo, NodeRead}
+use Rattle.ranks.specs.Ranking.{orderFrom}
 use Rattle.node_lines.specs.NodeLines.{hasPair, pairsFrom, pairPiece, nameColumn, previewFrom, pathFrom, nodeFrom, nodeIn, Printable, RowReady}
 
 -- ---- orientation pairs
@@ -173,13 +175,29 @@ module _ {limit at next : ℕ} {out out' : List ℕ} (text work : List ℕ) (b :
     unfolding line
     path-there e w = being (ap (λ v. endLine (bytes "max_repeat_run_path" ++ (61 ∷ v))) (path-found some is k f e)) w
 
+-- the first lines, and those of the links
+pub names-written : {limit at a₁ a₂ a₃ order : ℕ} {out o₁ o₂ o₃ : List ℕ} (text : List ℕ) (w : NodeWords) → Wrote limit out at (endLine (bytes "node" ++ (61 ∷ bytesIn text (w .name)))) o₁ a₁
+    → order ≡ orderFrom (w .number) → Wrote limit o₁ a₁ (endLine (bytes "order" ++ (61 ∷ decimal order))) o₂ a₂
+    → Wrote limit o₂ a₂ (endLine (bytes "sequence_len" ++ (61 ∷ decimal (w .long)))) o₃ a₃
+    → Wrote limit out at (ended (line (bytes "node") (bytesIn text (w .name)) ∷ number (bytes "order") (orderFrom (w .number)) ∷ number (bytes "sequence_len") (w .long) ∷ [])) o₃ a₃
+unfolding ended join line number
+names-written text w p e q r = being (rw e (simp (append-assoc, append-nil))) (p ▷ q ▷ r)
+
+pub two-lines : {limit at a₁ a₂ : ℕ} {out o₁ o₂ : List ℕ} (l m : List ℕ) → Wrote limit out at (endLine l) o₁ a₁ → Wrote limit o₁ a₁ (endLine m) o₂ a₂ → Wrote limit out at (ended (l ∷ m ∷ [])) o₂ a₂
+unfolding ended join
+two-lines l m p q = being (simp append-nil) (p ▷ q)
+
 -- ---- the thirteen lines
 
-pub thirteen : (a b c d e f g h i j k l m : List ℕ) →
-    (((ended (a ∷ b ∷ c ∷ []) ++ endLine d) ++ ended (e ∷ f ∷ [])) ++ ended (g ∷ h ∷ i ∷ j ∷ k ∷ l ∷ [])) ++ endLine m ≡
-    ended (a ∷ b ∷ c ∷ d ∷ e ∷ f ∷ g ∷ h ∷ i ∷ j ∷ k ∷ l ∷ m ∷ [])
+pub thirteen : {limit at a₁ a₂ a₃ a₄ a₅ : ℕ} {out o₁ o₂ o₃ o₄ o₅ : List ℕ} (a b c d e f g h i j k l m : List ℕ)
+    → Wrote limit out at (ended (a ∷ b ∷ c ∷ [])) o₁ a₁
+    → Wrote limit o₁ a₁ (endLine d) o₂ a₂
+    → Wrote limit o₂ a₂ (ended (e ∷ f ∷ [])) o₃ a₃
+    → Wrote limit o₃ a₃ (ended (g ∷ h ∷ i ∷ j ∷ k ∷ l ∷ [])) o₄ a₄
+    → Wrote limit o₄ a₄ (endLine m) o₅ a₅
+    → Wrote limit out at (ended (a ∷ b ∷ c ∷ d ∷ e ∷ f ∷ g ∷ h ∷ i ∷ j ∷ k ∷ l ∷ m ∷ [])) o₅ a₅
 unfolding ended join
-thirteen a b c d e f g h i j k l m = simp (append-assoc, append-nil)
+thirteen a b c d e f g h i j k l m p q r s t = being (simp (append-assoc, append-nil)) (p ▷ q ▷ r ▷ s ▷ t)
 
 -- the node of row k, which can be written
 module _ (text : List ℕ) (b : Bases) (n : Counts) {table k : ℕ} {work : List ℕ} {w : NodeWords} {c : Counter} (e : table ≡ tablesEnd b n) (p : NodeRead work table k w)

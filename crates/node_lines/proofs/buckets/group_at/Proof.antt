@@ -18,7 +18,7 @@ word-requires : tie.Need-word-requires Inv-loop μ-loop
 word-requires c κs = search needs
 
 node-at-requires : tie.Need-node-at-requires Inv-loop μ-loop
-node-at-requires c κs = number-room (c .before .before .pre .0) (c .before .before .pre .1) (c .word .ensures)
+node-at-requires c κs = search number-room
 
 loop-holds : tie.Need-loop-holds Inv-loop μ-loop
 loop-holds c = search grouping-start
@@ -30,14 +30,10 @@ word-requires-2 : tie.Need-word-requires-2 Inv-loop μ-loop
 word-requires-2 c κs = search needs
 
 node-at-requires-2 : tie.Need-node-at-requires-2 Inv-loop μ-loop
-node-at-requires-2 c κs = number-room (c .before .before .loop .inv .numbered) (c .before .loop-test .taken) (c .word2 .ensures)
+node-at-requires-2 c κs = search number-room
 
 returns : tie.Need-returns Inv-loop μ-loop
-returns c =
-    let read = c .before .before in
-    let number = read .before in
-    let test = number .before in
-    grouping-stop (test .before .loop .inv) (number .word2 .ensures) (read .node-at2 .ensures) (test .loop-test .taken) (c .if1 .taken)
+returns c = search grouping-stop
 
 add-links : tie.Need-add-links Inv-loop μ-loop
 add-links c = search needs
@@ -49,12 +45,7 @@ loop-less : tie.Need-loop-less Inv-loop μ-loop
 loop-less c = search needs
 
 loop-again : tie.Need-loop-again Inv-loop μ-loop
-loop-again c =
-    let same = c .before in
-    let read = same .before .before in
-    let number = read .before in
-    let test = number .before in
-    grouping-more (test .before .loop .inv) (number .word2 .ensures) (read .node-at2 .ensures) (test .loop-test .taken) (same .if1 .left)
+loop-again c = search grouping-more
 
 returns-2 : tie.Need-returns-2 Inv-loop μ-loop
 returns-2 c = search grouping-end

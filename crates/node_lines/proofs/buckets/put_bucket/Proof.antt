@@ -1,5 +1,4 @@
 -- `node_lines::buckets::put_bucket` meets its contract: the group is found and its line written. Assumes nothing.
-use native.Mathlib.Omega.{arith}
 use borrow.Author.Needs.{needs}
 use Rattle.node_lines.proofs.Grouping.{bucket-is}
 use Rattle.node_lines.proofs.buckets.put_bucket.Statement.{statement}
@@ -9,7 +8,7 @@ group-at-requires : tie.Need-group-at-requires
 group-at-requires c κs = search needs
 
 sub-put-bucket-line : tie.Need-sub-put-bucket-line
-sub-put-bucket-line c = omega (arith, c .before .before .group-at .ensures .low)
+sub-put-bucket-line c = search needs
 
 put-bucket-line-requires : tie.Need-put-bucket-line-requires
 put-bucket-line-requires c κs = search needs

@@ -1,11 +1,10 @@
 -- `node_lines::output::put_links` meets its contract: two lines. Assumes nothing.
-use mathlib.Core.List.{append-nil}
 use borrow.Author.Needs.{needs}
-use Rattle.gfa_spec.specs.Bytes.{bytes, ended, join}
+use Rattle.gfa_spec.specs.Bytes.{bytes}
 use Rattle.report_spec.specs.Lines.{line, number}
+use Rattle.node_lines.proofs.Pieces.{two-lines}
 use Rattle.node_lines.proofs.output.put_links.Statement.{statement}
 use Rattle.node_lines.proofs.output.put_links.Tie as tie
-use Rattle.writers.proofs.Writing.{being, _▷_}
 
 slice-aggregate-put-number-line : tie.Need-slice-aggregate-put-number-line
 slice-aggregate-put-number-line c = search needs
@@ -20,11 +19,8 @@ same-length : tie.Need-same-length
 same-length c = search needs
 
 returns : tie.Need-returns
-unfolding ended join line number bytes
-returns c =
-    let pairs = c .before .before in
-    let links = pairs .before .before .before .before in
-    being (simp append-nil) (links .put-number-line .ensures ▷ pairs .put-pairs .ensures)
+unfolding line number bytes
+returns c = search two-lines
 
 pub put-links-spec : {M : Type 1} → statement M
 put-links-spec =

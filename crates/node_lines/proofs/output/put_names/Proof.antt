@@ -1,11 +1,9 @@
 -- `node_lines::output::put_names` meets its contract: three lines, one after the other. Assumes nothing.
-use mathlib.Core.List.{append-assoc, append-nil}
 use borrow.Author.Needs.{needs}
-use Rattle.gfa_spec.specs.Bytes.{bytes, ended, join}
-use Rattle.report_spec.specs.Lines.{line, number}
+use Rattle.gfa_spec.specs.Bytes.{bytes}
+use Rattle.node_lines.proofs.Pieces.{names-written}
 use Rattle.node_lines.proofs.output.put_names.Statement.{statement}
 use Rattle.node_lines.proofs.output.put_names.Tie as tie
-use Rattle.writers.proofs.Writing.{being, _▷_}
 
 slice-aggregate-put-value-line : tie.Need-slice-aggregate-put-value-line
 slice-aggregate-put-value-line c = search needs
@@ -32,14 +30,8 @@ same-length : tie.Need-same-length
 same-length c = search needs
 
 returns : tie.Need-returns
-unfolding ended join line number bytes
-returns c =
-    let last = c .before .before in
-    let second = last .before .before .before .before .before in
-    let order = second .before .before .before in
-    let first = order .before .before .before in
-    being (rw (order .order-from .ensures) (simp (append-assoc, append-nil)))
-    (first .put-value-line .ensures ▷ second .put-number-line .ensures ▷ last .put-number-line2 .ensures)
+unfolding bytes
+returns c = search names-written
 
 pub put-names-spec : {M : Type 1} → statement M
 put-names-spec =

@@ -31,11 +31,7 @@ loop-less : tie.Need-loop-less Inv-loop μ-loop
 loop-less c = search needs
 
 loop-again : tie.Need-loop-again Inv-loop μ-loop
-loop-again c =
-    let written = c .before .before in
-    let number = written .before in
-    let test = number .before .before in
-    listing-more (test .before .loop .inv) (test .loop-test .taken) (number .word .ensures) (written .put-node .ensures)
+loop-again c = search listing-more
 
 same-length : tie.Need-same-length Inv-loop μ-loop
 same-length c = keeps (c .before .loop .inv .writing .wrote)

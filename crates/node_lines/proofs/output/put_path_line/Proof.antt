@@ -56,9 +56,7 @@ slice-aggregate-put-value-line-3 : tie.Need-slice-aggregate-put-value-line-3
 slice-aggregate-put-value-line-3 c = search needs
 
 put-value-line-requires-3 : tie.Need-put-value-line-requires-3
-put-value-line-requires-3 c κs =
-    let told = c .before .before .before in
-    found-inside (told .before .before .field-at .ensures) (told .name .given .1)
+put-value-line-requires-3 c κs = search found-inside
 
 same-length-3 : tie.Need-same-length-3
 same-length-3 c = search needs

@@ -2,7 +2,6 @@
 use borrow.Author.Needs.{needs}
 use Rattle.report_spec.specs.Lines.{nodeLines}
 use Rattle.node_lines.proofs.Pieces.{thirteen}
-use Rattle.writers.proofs.Writing.{being, _▷_}
 use Rattle.node_lines.proofs.output.put_row.Statement.{statement}
 use Rattle.node_lines.proofs.output.put_row.Tie as tie
 
@@ -32,8 +31,12 @@ returns c =
     let links = counts .before .before .before .before in
     let preview = links .before .before .before .before in
     let names = preview .before .before .before .before in
-    being (thirteen _ _ _ _ _ _ _ _ _ _ _ _ _)
-    (names .put-names .ensures ▷ preview .put-preview-line .ensures ▷ links .put-links .ensures ▷ counts .put-counts .ensures ▷ path .put-path-line .ensures)
+    thirteen _ _ _ _ _ _ _ _ _ _ _ _ _
+    (names .put-names .ensures)
+    (preview .put-preview-line .ensures)
+    (links .put-links .ensures)
+    (counts .put-counts .ensures)
+    (path .put-path-line .ensures)
 
 pub put-row-spec : {M : Type 1} → statement M
 put-row-spec =
