@@ -80,8 +80,8 @@ module _ {text w : List ℕ} {b : Bases} {n : Counts} {g : Layout} (l : Loaded t
     front : KeptWords (b .lines) (tablesEnd b n) w w'
     front = marks-behind loaded-source (g .eligible) (g .eligible + n .segs) (omega arith) (m .only)
 
-    source-behind : Source text w' b n g
-    source-behind = source-stands loaded-source front (m .long)
+    pub marked-source : Source text w' b n g
+    marked-source = source-stands loaded-source front (m .long)
 
     marked-tied : Tied (entriesAt text w b (n .lines)) text w' b n
     marked-tied = tied-stands (l .tied) (standing loaded-source front)
@@ -92,7 +92,7 @@ module _ {text w : List ℕ} {b : Bases} {n : Counts} {g : Layout} (l : Loaded t
         let marked = eligible-marked (entriesAt text w b (n .lines)) cap (l .tied) m in
         record {
           long = m .long;
-          source = source-behind;
+          source = marked-source;
           tied = tied-itself marked-tied;
           marks = record { test = _; marked = m .marked };
           same = same;
@@ -100,9 +100,6 @@ module _ {text w : List ℕ} {b : Bases} {n : Counts} {g : Layout} (l : Loaded t
           none = rw same (any-is _ cap marked-tied a marked);
           counted = rw same (stats-are _ (l .tied) (l .visits) i);
         }
-
-pub marked-source : {text w w' : List ℕ} {cap : ℕ} {b : Bases} {n : Counts} {g : Layout} → MarkedIs cap text w w' b n g → Loaded text w b n → Placed b n g (length w) → Source text w' b n g
-marked-source m l p = source-behind l p m
 
 -- ---- the answer to the tables
 

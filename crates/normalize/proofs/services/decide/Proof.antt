@@ -14,7 +14,7 @@ mark-eligible-requires : tie.Need-mark-eligible-requires
 mark-eligible-requires c κs = search loaded-source
 
 any-folded-requires : tie.Need-any-folded-requires
-any-folded-requires c κs = marked-source (c .before .before .before .mark-eligible .ensures) (search) (search)
+any-folded-requires c κs = marked-source (search) (search) (c .before .before .before .mark-eligible .ensures)
 
 same-length : tie.Need-same-length
 same-length c = search needs
