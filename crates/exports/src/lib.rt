@@ -4,7 +4,7 @@ ghost use Rattle.gfa_spec.specs.Services.{spellPath};
 ghost use Rattle.report_spec.specs.Services.{reportText};
 ghost use Rattle.reader.specs.Served.{Served};
 ghost use Rattle.normalize.specs.Served.{Normalized};
-use folding::returning::NormalizeSelfLoopsResult;
+use normalize_answers::returning::NormalizeSelfLoopsResult;
 use normalize::config::NormalizeSelfLoopsConfig;
 use normalize::services::normalize_repeat_self_loops;
 use reader::answers::Answer;

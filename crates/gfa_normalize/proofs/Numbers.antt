@@ -6,7 +6,7 @@ use mathlib.Core.Path.{_≡_, refl}
 use Rattle.gfa_spec.specs.Calls.{Refusal, Outcome}
 use Rattle.normalize_spec.specs.Services.{Normal, normal, normalize}
 use Rattle.normalize_spec.proofs.ServiceRefusals.{normalize-numbers}
-use Rattle.folding.specs.Answered.{outcomeOf}
+use Rattle.normalize_answers.specs.Answered.{outcomeOf}
 
 pub numbered : (text : List ℕ) (cap room work : ℕ) (r : Refusal) → outcomeOf (normalize text cap room work) ≡ Outcome.refusal r → 1 ≤ r .number
 unfolding outcomeOf

@@ -1,7 +1,7 @@
 // Prints standard input, which has at most 2,048 bytes, normalized with no cap; or the lines of a refusal.
 ghost use lib.ListN.{length};
 ghost use Rattle.normalize_spec.specs.Services.{normalize};
-ghost use Rattle.folding.specs.Answered.{outcomeOf};
+ghost use Rattle.normalize_answers.specs.Answered.{outcomeOf};
 ghost use Rattle.console.specs.Printed.{limited, Prints};
 use console::put_refusal;
 use console::show;

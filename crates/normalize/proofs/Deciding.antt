@@ -31,17 +31,17 @@ use Rattle.normalize_tables.specs.Layout.{Placed, Source}
 use Rattle.normalize_tables.specs.Marks.{Marked}
 use Rattle.normalize_tables.proofs.Sources.{standing, source-stands}
 use Rattle.targets.specs.Marking.{MarkedIs, AnyIs}
-use Rattle.folding.specs.declared.returning.NormalizeSelfLoopsResult.{NormalizeSelfLoopsResult}
-use Rattle.folding.specs.declared.stats.NormalizeSelfLoopsStats.{NormalizeSelfLoopsStats}
-use Rattle.folding.specs.Counters.{noCounters, counters, inputCounters, InputStats}
-use Rattle.folding.specs.Answered.{NormalAnswered}
-use Rattle.folding.specs.Tied.{Tied}
+use Rattle.normalize_answers.specs.declared.returning.NormalizeSelfLoopsResult.{NormalizeSelfLoopsResult}
+use Rattle.normalize_answers.specs.declared.stats.NormalizeSelfLoopsStats.{NormalizeSelfLoopsStats}
+use Rattle.normalize_answers.specs.Counters.{noCounters, counters, inputCounters, InputStats}
+use Rattle.normalize_answers.specs.Answered.{NormalAnswered}
+use Rattle.normalize_answers.specs.Tied.{Tied}
 use Rattle.normalize.specs.Loaded.{Loaded, Decided}
 use Rattle.normalize.specs.declared.services.Decision.{Decision}
-use Rattle.folding.specs.Folding.{FoldTextIs}
-use Rattle.folding.proofs.Answering.{refuses}
-use Rattle.folding.proofs.Tying.{tied-stands, tied-itself}
-use Rattle.folding.proofs.Steering.{marks-behind}
+use Rattle.normalize_answers.specs.Folding.{FoldTextIs}
+use Rattle.normalize_answers.proofs.Answering.{refuses}
+use Rattle.normalize_answers.proofs.Tying.{tied-stands, tied-itself}
+use Rattle.normalize_answers.proofs.Steering.{marks-behind}
 
 -- ---- rules 1 to 3
 

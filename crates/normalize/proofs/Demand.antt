@@ -12,9 +12,9 @@ use Rattle.normalize_spec.specs.Guarantees.{looser}
 use Rattle.normalize_spec.proofs.Service.{normalize-sound, normalize-monotone}
 use Rattle.normalize_spec.proofs.ServiceRefusals.{normalize-numbers}
 use Rattle.reader.specs.Served.{answerOf, outputOf}
-use Rattle.folding.specs.declared.returning.NormalizeSelfLoopsResult.{NormalizeSelfLoopsResult}
-use Rattle.folding.specs.Counters.{counters}
-use Rattle.folding.specs.Answered.{outcomeOf, statsOf, NormalAnswered}
+use Rattle.normalize_answers.specs.declared.returning.NormalizeSelfLoopsResult.{NormalizeSelfLoopsResult}
+use Rattle.normalize_answers.specs.Counters.{counters}
+use Rattle.normalize_answers.specs.Answered.{outcomeOf, statsOf, NormalAnswered}
 use Rattle.normalize.specs.Served.{Keeps, LooserFolds, Normalized}
 
 module _ (text : List ℕ) (cap : ℕ) {out out' : List ℕ} (size : ℕ) {r : NormalizeSelfLoopsResult} where

@@ -16,9 +16,9 @@ use Rattle.normalize_spec.specs.Folding.{eligible, folded}
 use Rattle.normalize_spec.specs.Counting.{unchanged}
 use Rattle.normalize_tables.specs.Layout.{Source}
 use Rattle.normalize_tables.specs.Marks.{Marked}
-use Rattle.folding.specs.Counters.{counters}
-use Rattle.folding.specs.Tied.{Tied}
-use Rattle.folding.specs.Folding.{Marks}
+use Rattle.normalize_answers.specs.Counters.{counters}
+use Rattle.normalize_answers.specs.Tied.{Tied}
+use Rattle.normalize_answers.specs.Folding.{Marks}
 use Rattle.normalize.specs.declared.services.Decision.{Decision}
 
 -- What the service knows of the tables of an admitted text.

@@ -9,9 +9,9 @@ use Rattle.normalize_spec.specs.Counting.{Stats}
 use Rattle.normalize_spec.specs.Services.{normal, normalize}
 use Rattle.normalize_spec.specs.Guarantees.{looser, Kept, Counted, Monotone}
 use Rattle.reader.specs.Served.{answerOf, outputOf}
-use Rattle.folding.specs.declared.returning.NormalizeSelfLoopsResult.{NormalizeSelfLoopsResult}
-use Rattle.folding.specs.Counters.{counters}
-use Rattle.folding.specs.Answered.{outcomeOf, statsOf}
+use Rattle.normalize_answers.specs.declared.returning.NormalizeSelfLoopsResult.{NormalizeSelfLoopsResult}
+use Rattle.normalize_answers.specs.Counters.{counters}
+use Rattle.normalize_answers.specs.Answered.{outcomeOf, statsOf}
 
 -- Demand 3 of a text and of an output: both can be read, and of their entries it is said
 -- that every path spells what it spelled (`kept .spells`), has lost exactly the steps of its folded runs (`kept .lost`), and that this is its

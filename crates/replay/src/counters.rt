@@ -2,7 +2,7 @@
 ghost use Prim.Native.Nat.{_≤_};
 ghost use lib.ListN.{length};
 use crate::cases::number_at;
-use folding::stats::NormalizeSelfLoopsStats;
+use normalize_answers::stats::NormalizeSelfLoopsStats;
 
 // Are the counters of input and output those of the header's words from 10 on?
 pub fn same_counts(list: &[u8], start: usize, end: usize, s: NormalizeSelfLoopsStats) -> bool

@@ -1,5 +1,0 @@
--- Laws of folding, in reading order.
-pub mod Answering
-pub mod Tying
-pub mod Steering
-pub mod Rewrites

@@ -1,5 +1,0 @@
--- What the contracts of folding say.
-pub mod Counters
-pub mod Answered
-pub mod Tied
-pub mod Folding
