@@ -1,36 +1,33 @@
 // A case replayed: its call, and all that the call returns and leaves behind.
-ghost use Prim.Native.Nat.{_≤_, _<_};
+ghost use mathlib.Core.Path.{_≡_};
+ghost use Prim.Native.Nat.{_<_};
 ghost use lib.ListN.{length};
-use crate::buffers::fill_bytes;
-use crate::buffers::fill_words;
-use crate::buffers::left_agrees;
-use crate::cases::Case;
-use crate::cases::case_at;
-use crate::cases::end_of;
-use crate::counters::same_stats;
-use normalize_answers::returning::NormalizeSelfLoopsResult;
-use normalize_answers::stats::no_stats;
+ghost use Rattle.cases.specs.Cases.{Tells, CaseIs};
+ghost use Rattle.replay.specs.Left.{Left};
+use crate::counters::counters;
+use cases::agreement::agrees;
+use cases::buffers::fill_bytes;
+use cases::buffers::fill_words;
+use cases::buffers::within;
+use cases::buffers::words_left;
+use cases::headers::ARG;
+use cases::headers::ROOM;
+use cases::lists::Case;
 use normalize::config::NormalizeSelfLoopsConfig;
 use normalize::services::normalize_repeat_self_loops;
+use normalize_answers::returning::NormalizeSelfLoopsResult;
+use normalize_answers::stats::no_stats;
 use reader::answers::Answer;
 use report::services::diagnose_gfa_with_top_n;
 use speller::services::spell_path;
 
-pub fn same_answer(a: Answer, c: Case) -> bool {
-    if a.number != c.number {
-        return false;
-    }
-    if a.line != c.line {
-        return false;
-    }
-    if a.from != c.from {
-        return false;
-    }
-    a.length == c.size
-}
+// The word of a header that says how long the work area is.
+const WORK: usize = 3;
 
 // An answer without counters.
-pub fn uncounted(answer: Answer) -> NormalizeSelfLoopsResult {
+pub fn uncounted(answer: Answer) -> NormalizeSelfLoopsResult
+    ensures { λ r. ⌜ r .answer ≡ answer ⌝ }
+{
     NormalizeSelfLoopsResult {
         answer,
         stats: no_stats(),
@@ -54,62 +51,60 @@ pub fn call(
     uncounted(spell_path(text, arg, out, work))
 }
 
-// Replays a call: the answer, the counters, the output and the work area are as recorded, and nothing else changed.
-pub fn call_agrees(
-    service: u8,
+// Are the answer and the counters of a call those of its case, and do its buffers hold the output, a cleared work area and nothing else
+// that is new?
+pub fn result_agrees(
     list: &[u8],
-    at: usize,
-    end: usize,
-    text: &[u8],
-    output: &[u8],
+    start: usize,
     c: Case,
+    row: &[usize; 24],
+    r: NormalizeSelfLoopsResult,
+    out: &[u8],
+    work: &[u32],
+) -> bool
+    requires { ⌜ (start < length (now list)) × CaseIs (length (now list)) start c ⌝ }
+    ensures { λ r. ⌜ Tells (Left (now (list .entry)) c (now (row .entry)) (now (out .entry)) (now (work .entry))) r ⌝ }
+{
+    let a = r.answer;
+    let counted = counters(list[start], r.stats);
+    if !agrees(
+        list,
+        start,
+        c,
+        row,
+        &[a.number, a.line, a.from, a.length],
+        &counted,
+        out,
+    ) {
+        return false;
+    }
+    words_left(work, row[WORK])
+}
+
+// Replays the call of a case in buffers that hold a pattern: is all as recorded?
+pub fn case_agrees(
+    list: &[u8],
+    start: usize,
+    c: Case,
+    row: &[usize; 24],
     out: &mut [u8],
     work: &mut [u32],
 ) -> bool
-    requires { ⌜ (at ≤ end) × (end ≤ length (now list)) ⌝ }
+    requires { ⌜ (start < length (now list)) × CaseIs (length (now list)) start c ⌝ }
+    ensures { λ r. ⌜ Tells (Left (now (list .entry)) c (now (row .entry)) (now (out .exit)) (now (work .exit))) r ⌝ }
 {
-    let room = c.room;
-    let words = c.words;
-    if out.len() < room {
-        return false;
-    }
-    if work.len() < words {
-        return false;
-    }
+    let text = c.text;
+    let stop = c.stop;
+    let room = within(row[ROOM], out.len());
+    let words = within(row[WORK], work.len());
     fill_bytes(out);
     fill_words(work);
-    let r = call(service, text, c.arg, &mut out[..room], &mut work[..words]);
-    if !same_answer(r.answer, c) {
-        return false;
-    }
-    if !same_stats(service, list, at, end, r.stats) {
-        return false;
-    }
-    left_agrees(out, work, output, words)
-}
-
-// Does the case whose header stands from `at` up to `end` agree?
-pub fn case_agrees(list: &[u8], at: usize, end: usize, out: &mut [u8], work: &mut [u32]) -> bool
-    requires { ⌜ (at ≤ end) × (end < length (now list)) ⌝ }
-{
-    let service = list[at];
-    let c = case_at(list, at, end);
-    let text = end + 1;
-    let stop = end_of(list.len(), text, c.text);
-    if stop == list.len() {
-        return false;
-    }
-    let output = stop + 1;
-    let last = end_of(list.len(), output, c.output);
-    call_agrees(
-        service,
-        list,
-        at,
-        end,
+    let r = call(
+        list[start],
         &list[text..stop],
-        &list[output..last],
-        c,
-        out,
-        work,
-    )
+        row[ARG],
+        &mut out[..room],
+        &mut work[..words],
+    );
+    result_agrees(list, start, c, row, r, out, work)
 }

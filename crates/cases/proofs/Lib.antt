@@ -1,0 +1,2 @@
+-- Laws for the proofs of the code.
+pub mod Comparing

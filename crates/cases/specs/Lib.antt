@@ -1,0 +1,2 @@
+-- What the contracts on lists of cases say.
+pub mod Cases

@@ -1,0 +1,2 @@
+-- What the contracts on replayed calls say.
+pub mod Left
