@@ -16,7 +16,7 @@ use scan::places::Field;
 use scan::places::field_at;
 use steps::checked::Checked;
 use steps::p_steps::is_orientation;
-use steps::p_steps::wide;
+use steps::p_steps::wide_byte;
 use tables::entry::LinkNo;
 use tables::entry::Record;
 use tables::rows::LinkWords;
@@ -39,7 +39,7 @@ pub fn parse_orientation(text: &[u8], at: usize, size: usize, n: usize) -> Check
     }
     let b = text[at];
     if is_orientation(b) {
-        return Checked::Value(wide(b));
+        return Checked::Value(wide_byte(b));
     }
     Checked::Refused(n + 1)
 }

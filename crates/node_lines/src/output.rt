@@ -182,7 +182,7 @@ pub fn put_links(out: &mut [u8], at: usize, limit: usize, w: NodeWords) -> usize
 }
 
 // The thirteen lines of a node, by the words of its row.
-pub fn put_row(
+pub fn put_node_row(
     out: &mut [u8],
     at: usize,
     limit: usize,
@@ -220,7 +220,7 @@ pub fn put_node(
     let table = tables_end(work, b, n);
     let w = node_at(work, table, k);
     let c = counter_at(work, table, k);
-    put_row(out, at, limit, text, work, b, n, w, c)
+    put_node_row(out, at, limit, text, work, b, n, w, c)
 }
 
 // The lines of the nodes whose numbers stand from the word `nums` on.

@@ -21,7 +21,7 @@ pub fn is_orientation(b: u8) -> bool
 }
 
 // A byte as a number.
-pub fn wide(b: u8) -> usize
+pub fn wide_byte(b: u8) -> usize
     ensures { λ r. ⌜ (r ≡ b) × (r < 256) ⌝ }
 {
     b as usize
@@ -55,7 +55,7 @@ pub fn read_item(
             start: from,
             size: last - from,
         },
-        mark: wide(mark),
+        mark: wide_byte(mark),
     };
     put_step(work, base, n, step);
     Checked::Value(n + 1)

@@ -19,8 +19,8 @@ shared-slice-read-b c = search needs
 is-orientation-requires : tie.Need-is-orientation-requires
 is-orientation-requires c κs = search needs
 
-wide-requires : tie.Need-wide-requires
-wide-requires c κs = search needs
+wide-byte-requires : tie.Need-wide-byte-requires
+wide-byte-requires c κs = search needs
 
 returns-3 : tie.Need-returns-3
 returns-3 c = search orientation-is
@@ -40,7 +40,7 @@ parse-orientation-spec =
     returns-2
     shared-slice-read-b
     is-orientation-requires
-    wide-requires
+    wide-byte-requires
     returns-3
     add-t12
     returns-4)

@@ -13,8 +13,8 @@ node-at-requires c κs = search needs
 counter-at-requires : tie.Need-counter-at-requires
 counter-at-requires c κs = search needs
 
-put-row-requires : tie.Need-put-row-requires
-put-row-requires c κs = (search needs, search row-ready)
+put-node-row-requires : tie.Need-put-node-row-requires
+put-node-row-requires c κs = (search needs, search row-ready)
 
 same-length : tie.Need-same-length
 same-length c = search needs
@@ -23,4 +23,4 @@ returns : tie.Need-returns
 returns c = search node-written
 
 pub put-node-spec : {M : Type 1} → statement M
-put-node-spec = tie.close (tie.spec tables-end-requires node-at-requires counter-at-requires put-row-requires same-length returns)
+put-node-spec = tie.close (tie.spec tables-end-requires node-at-requires counter-at-requires put-node-row-requires same-length returns)

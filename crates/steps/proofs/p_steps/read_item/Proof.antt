@@ -25,8 +25,8 @@ returns-3 c = search item-no-name
 sub-t14 : tie.Need-sub-t14
 sub-t14 c = search needs
 
-wide-requires : tie.Need-wide-requires
-wide-requires c κs = search needs
+wide-byte-requires : tie.Need-wide-byte-requires
+wide-byte-requires c κs = search needs
 
 put-step-requires : tie.Need-put-step-requires
 put-step-requires c κs = search needs
@@ -51,7 +51,7 @@ read-item-spec =
     returns-2
     returns-3
     sub-t14
-    wide-requires
+    wide-byte-requires
     put-step-requires
     add-t14
     same-length

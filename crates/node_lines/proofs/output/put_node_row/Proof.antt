@@ -1,9 +1,9 @@
--- `node_lines::output::put_row` meets its contract: thirteen lines in five pieces. Assumes nothing.
+-- `node_lines::output::put_node_row` meets its contract: thirteen lines in five pieces. Assumes nothing.
 use borrow.Author.Needs.{needs}
 use Rattle.report_spec.specs.Lines.{nodeLines}
 use Rattle.node_lines.proofs.Pieces.{thirteen}
-use Rattle.node_lines.proofs.output.put_row.Statement.{statement}
-use Rattle.node_lines.proofs.output.put_row.Tie as tie
+use Rattle.node_lines.proofs.output.put_node_row.Statement.{statement}
+use Rattle.node_lines.proofs.output.put_node_row.Tie as tie
 
 put-names-requires : tie.Need-put-names-requires
 put-names-requires c κs = search needs
@@ -38,8 +38,8 @@ returns c =
     (counts .put-counts .ensures)
     (path .put-path-line .ensures)
 
-pub put-row-spec : {M : Type 1} → statement M
-put-row-spec =
+pub put-node-row-spec : {M : Type 1} → statement M
+put-node-row-spec =
     tie.close
     (tie.spec
     put-names-requires
