@@ -14,8 +14,9 @@ use Rattle.reader.specs.Inputs.{InputRead, InputIs}
 use Rattle.reader.specs.declared.input.Input.{Input}
 use Rattle.reader.specs.declared.input.Input.the-variants as input
 use Rattle.reader.proofs.Serving.{was-read}
-use Rattle.runs.proofs.Totals.{readable, over-entries}
+use Rattle.runs.proofs.Totals.{over-entries}
 use Rattle.normalize.specs.Loaded.{Loaded}
+use Rattle.tables.proofs.Standing.{readable}
 
 -- the tables that were read
 read-loaded : {text before w : List ℕ} {b : Bases} {n : Counts} → InputRead text before w b n → Loaded text w b n

@@ -5,6 +5,8 @@ use mathlib.Core.Path.{_≡_, _∙_}
 use lib.ListN.{length, drop, replicate}
 use Rattle.tables.specs.declared.tables.Bases.{Bases}
 use Rattle.tables.specs.declared.tables.Counts.{Counts}
+use Rattle.tables.specs.Tables.{Readable}
+use Rattle.tables.proofs.Standing.{readable}
 use Rattle.reader.specs.declared.answers.Answer.{Answer}
 use Rattle.reader.specs.declared.input.Input.{Input}
 use Rattle.reader.specs.declared.input.Input.the-variants as input
@@ -32,3 +34,6 @@ served mid h e l = record { answer = h .answer; output = h .output; cleared = e 
 -- the tables that were read
 pub was-read : {text before work : List ℕ} {r : Input} {b : Bases} {n : Counts} → InputIs text before work r → r ≡ input.Tables b n → InputRead text before work b n
 was-read h e = rw e at (h .says)
+
+pub input-readable : {text before work : List ℕ} {r : Input} {b : Bases} {n : Counts} → InputIs text before work r → r ≡ input.Tables b n → Readable text work b n
+input-readable h e = readable (was-read h e .tables)

@@ -24,16 +24,16 @@ use Rattle.tables.specs.Entries.{entriesAt}
 use Rattle.reader.specs.Inputs.{stated, InputRead, InputIs}
 use Rattle.reader.specs.Served.{Answered, refusedWith}
 use Rattle.reader.proofs.Serving.{refuses, gives, was-read}
-use Rattle.runs.proofs.Totals.{readable, over-entries}
+use Rattle.runs.proofs.Totals.{over-entries}
 use Rattle.writers.specs.Writers.{Wrote}
 use Rattle.writers.proofs.Writing.{being, _▷_, measured, measured-long, written}
 use Rattle.report_spec.specs.Nodes.{nodes, nodeOf}
 use Rattle.report_spec.specs.Services.{reportEntries, reportText}
 use Rattle.report.specs.declared.totals.Totals.{Totals}
 use Rattle.report.specs.declared.totals.Areas.{Areas}
-use Rattle.tables.specs.Tables.{Readable}
 use Rattle.nodes.specs.Table.{nameNo, linksAmong}
 use Rattle.tables.proofs.ByNumber.{links-length, segments-length, paths-length}
+use Rattle.tables.proofs.Standing.{readable}
 use Rattle.tally.specs.Tabled.{Tabled}
 use Rattle.ranks.specs.Ranking.{numsAt, upTo}
 use Rattle.ranks.specs.Sorting.{sortBy}
@@ -158,9 +158,6 @@ module _ {text before w : List ℕ} {b : Bases} {n : Counts} (h : InputRead text
 module _ {text before w : List ℕ} {k : Input} {b : Bases} {n : Counts} (i : InputIs text before w k) (e : k ≡ input.Tables b n) where
   pub input-tabled : Tabled text w b n
   input-tabled = read-tabled (was-read i e)
-
-  pub input-readable : Readable text w b n
-  input-readable = input-tabled .readable
 
   pub input-reportable : {w' : List ℕ} {m : ℕ} → Ranked text w w' b n m → Reportable text w' b n m
   input-reportable r = ranked-reportable (entered (was-read i e)) input-tabled r

@@ -17,7 +17,7 @@ use Rattle.gfa_spec.specs.Runs.{bit, pairs, sameNode, sameStep, overPaths, same
 use Rattle.gfa_spec.proofs.Counting.{count-one, count-append}
 use Rattle.gfa_spec.proofs.Runs.{pairs-none, pairs-cons}
 use Rattle.tables.specs.Entries.{entriesAt}
-use Rattle.tables.specs.Tables.{Tables, Readable}
+use Rattle.tables.specs.Tables.{Tables}
 use Rattle.tables.specs.ByNumber.{pathNo, stepNo, linksTo, pathsFrom, stepsFrom, stepOf, linkOf, StepIs, LinkIs, PathIs}
 use Rattle.tables.proofs.ByNumber.{links-more, paths-all, paths-next, paths-none, steps-next, steps-length, links-zero}
 use Rattle.runs.specs.Counts.{PairsIs, overRows, PairTotals}
@@ -132,10 +132,6 @@ module _ {text work : List ℕ} {b : Bases} where
 -- ---- the tables and the entries
 
 module _ {text before work : List ℕ} {b : Bases} {n : Counts} (t : Tables text before work b n) where
-  -- tables that were read may be read again
-  pub readable : Readable text work b n
-  readable = record { laid = t .laid; few = t .few; sound = t .sound }
-
   -- a count over the table's paths is that over the entries'
   pub over-entries : (f : List Step → ℕ) → overRows f text work b n ≡ overPaths f (entriesAt text work b (n .lines))
   unfolding overRows overPaths

@@ -88,6 +88,10 @@ module _ {text before work : List ℕ} {r : Input} (k : ℕ) (h : InputIs text b
         let gone = path-none k (pathsTo text work b (n .paths)) (rw paths-length l) in
         refuses (plainly 21) (spellPath text k (length out) (length before)) (rw (read .read, read .tables .of-paths, gone)) f u
 
+    -- its number fits into a word
+    pub path-small : k < n .paths → k < 4294967296
+    path-small l = let few = was-read h e .tables .few .3 in omega arith
+
     -- path k is spelled
     pub answered-path : {out out' : List ℕ} {a : Answer} {p : PathWords} → k < n .paths → PathIs text work b n k p
         → Answered out out' a (ofSpelt (length out) (spell complement (segmentsOf text work b n) (stepsFrom text work b (p .first) (p .end))))

@@ -21,7 +21,7 @@ use tables::tables::Bases;
 use tables::tables::Counts;
 use work::work::clear;
 
-// What the steps from step `first` up to `end` spell. It is measured on an empty part of the buffer, and written where it fits.
+// What the steps from step `first` up to `end` spell. It is measured on an empty buffer, and written where it fits.
 fn spell_steps(
     text: &[u8],
     work: &[u32],
@@ -37,7 +37,8 @@ fn spell_steps(
 {
     let room = out.len();
     let limit = room + 1;
-    let measured = put_spelling(&mut out[..0], 0, limit, text, work, b, n, first, end);
+    let mut nothing = [0u8; 0];
+    let measured = put_spelling(&mut nothing, 0, limit, text, work, b, n, first, end);
     let Spelt::Bytes(need) = measured else {
         return refused_step(measured);
     };

@@ -19,6 +19,7 @@ use Rattle.spelling.specs.declared.spelling.Sequence.the-variants as seq
 use Rattle.spelling.specs.declared.spelling.Spelt as code
 use Rattle.spelling.specs.declared.spelling.Spelt.the-variants.{Bytes, Bad}
 use Rattle.spelling.specs.declared.spelling.Steps.the-variants as steps
+use lib.ListN.{length}
 use Rattle.gfa_spec.specs.Bytes.{Part, same, star}
 use Rattle.gfa_spec.specs.Reading.{Step, Segment, Path, Entry}
 use Rattle.gfa_spec.specs.Records.{segments, paths, sequenceOf}
@@ -27,12 +28,12 @@ use Rattle.gfa_spec.specs.Spelling.{Spelt, bad, spelt, behind, spellStep, spell
 use Rattle.gfa_spec.specs.Calls.{onName}
 use Rattle.gfa_spec.specs.Services.{badStep}
 use Rattle.gfa_spec.proofs.Parts.{length-part}
-use Rattle.scan.specs.Places.{partAt}
+use Rattle.scan.specs.Places.{partAt, StarIs}
 use Rattle.writers.specs.Writers.{Wrote}
-use Rattle.writers.proofs.Writing.{_▷_, nothing}
+use Rattle.writers.proofs.Writing.{_▷_, nothing, keeps}
 use Rattle.tables.specs.ByNumber.{pathNo, stepNo, segmentsOf, pathsTo, pathsFrom, stepsFrom, bytesIn, Inside, SegmentIs, PathIs, StepIs, NamedIs}
 use Rattle.tables.proofs.Named.{named-sequence, unnamed-sequence}
-use Rattle.tables.proofs.ByNumber.{paths-all, paths-next, paths-none}
+use Rattle.tables.proofs.ByNumber.{steps-next, steps-none, paths-all, paths-next, paths-none}
 use Rattle.reader.specs.Inputs.{stated}
 use Rattle.spelling.specs.Spelled.{SequenceIs, SpeltInto, BadStepAt, SpeltIs, badAnswer, BadStepIs}
 
@@ -99,58 +100,81 @@ module _ {text work : List ℕ} {b : Bases} {n : Counts} {i : ℕ} {s : StepWord
     pub sequence-inside : Inside text seq
     sequence-inside = (rw q at (h .says)) .inside
 
-    module _ {limit at : ℕ} {before after : List ℕ} {d : Bool} (g : d ≡ same (bytesIn text seq) star) where
+    module _ {limit at : ℕ} {before after : List ℕ} {d : Bool} (g : StarIs text (seq .start) (seq .size) d) where
       -- its segment has sequence `*`
       pub step-star : d ≡ true → SpeltIs text limit before at after (spell complement (segmentsOf text work b n) (stepNo text work b i ∷ [])) (Bad 19 (s .name))
       unfolding spell spellStep partAt
-      step-star z = record { says = record { spells = rw (t .step, known, sym g ∙ z); inside = t .name } }
+      step-star z = record { says = record { spells = rw (t .step, known, sym (g .answer) ∙ z); inside = t .name } }
 
       -- its sequence is written as it is oriented
       pub step-put : {next : ℕ} → d ≡ false → Wrote limit before at (oriented complement (s .mark) (bytesIn text seq)) after next
           → SpeltIs text limit before at after (spell complement (segmentsOf text work b n) (stepNo text work b i ∷ [])) (Bytes next)
       unfolding spell spellStep behind partAt
       step-put z w =
-          record { says = record { bytes = oriented complement (s .mark) (bytesIn text seq); spells = rw (t .step, known, sym g ∙ z, append-nil); wrote = w } }
+          record { says = record { bytes = oriented complement (s .mark) (bytesIn text seq); spells = rw (t .step, known, sym (g .answer) ∙ z, append-nil); wrote = w } }
 
 -- ---- a loop over the steps: a piece is written, and all steps spell that piece and then the rest
 
-pub record SoFar (limit : ℕ) (before : List ℕ) (at : ℕ) (out : List ℕ) (next : ℕ) (ss : List Segment) (all rest : List Step) : Type 0 where
+-- The state at step i: what the steps before it spell is written.
+pub record SoFar (limit : ℕ) (before : List ℕ) (at : ℕ) (text work : List ℕ) (b : Bases) (n : Counts) (first end : ℕ) (out : List ℕ) (next i : ℕ) : Type 0 where
+  pub low : first ≤ i
+  pub high : i ≤ end
+  pub long : length out ≡ length before
   pub piece : List ℕ
   pub wrote : Wrote limit before at piece out next
-  pub spells : spell complement ss all ≡ behind piece (spell complement ss rest)
+  pub spells : spell complement (segmentsOf text work b n) (stepsFrom text work b first end) ≡ behind piece (spell complement (segmentsOf text work b n) (stepsFrom text work b i end))
 
-module _ {limit at : ℕ} {before : List ℕ} {ss : List Segment} {all : List Step} where
+module _ {limit at : ℕ} {before text work : List ℕ} {b : Bases} {n : Counts} {first end : ℕ} where
   -- before the first step
-  pub so-far-none : {next : ℕ} {rest : List Step} → next ≡ min (at + 0) limit → all ≡ rest → SoFar limit before at before next ss all rest
-  so-far-none {next} {rest} p e = record { piece = []; wrote = nothing p; spells = rw e (sym (behind-none (spell complement ss rest))) }
+  pub so-far-start : {next : ℕ} → first ≤ end → next ≡ min (at + 0) limit → SoFar limit before at text work b n first end before next first
+  so-far-start h p =
+      record {
+        low = omega arith;
+        high = h;
+        long = refl;
+        piece = [];
+        wrote = nothing p;
+        spells = sym (behind-none (spell complement (segmentsOf text work b n) (stepsFrom text work b first end)));
+      }
 
-  module _ {text out after : List ℕ} {next : ℕ} {rest more : List Step} {s : Step} {r : code.Spelt} (here : rest ≡ s ∷ more)
-      (sofar : SoFar limit before at out next ss all rest) (one : SpeltIs text limit out next after (spell complement ss (s ∷ [])) r) where
+  module _ {out after : List ℕ} {next i : ℕ} {r : code.Spelt} (s : SoFar limit before at text work b n first end out next i) (h : i < end)
+      (one : SpeltIs text limit out next after (spell complement (segmentsOf text work b n) (stepNo text work b i ∷ [])) r) where
+    abbrev ss : List Segment
+    ss = segmentsOf text work b n
+
+    -- all steps spell the piece, then this step and those behind it
+    chained : spell complement ss (stepsFrom text work b first end)
+        ≡ behind (s .piece) (chain (spell complement ss (stepNo text work b i ∷ [])) (spell complement ss (stepsFrom text work b (i + 1) end)))
+    chained = s .spells ∙ rw (steps-next text work b i end h, spell-chain ss (stepNo text work b i) (stepsFrom text work b (i + 1) end))
+
     -- a step that spells something
-    pub so-far-more : {last : ℕ} → r ≡ Bytes last → SoFar limit before at after last ss all more
+    pub so-far-more : {last : ℕ} → r ≡ Bytes last → SoFar limit before at text work b n first end after last (i + 1)
     unfolding chain
     so-far-more {last} e = go (rw e at (one .says))
       where
-        go : SpeltInto limit out next after (spell complement ss (s ∷ [])) last → SoFar limit before at after last ss all more
+        go : SpeltInto limit out next after (spell complement ss (stepNo text work b i ∷ [])) last → SoFar limit before at text work b n first end after last (i + 1)
         go got =
             record {
-              piece = sofar .piece ++ got .bytes;
-              wrote = sofar .wrote ▷ got .wrote;
-              spells = sofar .spells ∙ rw (here, spell-chain ss s more, got .spells) (behind-behind (sofar .piece) (got .bytes) (spell complement ss more));
+              low = omega (arith, s .low);
+              high = omega arith;
+              long = keeps (got .wrote) ∙ s .long;
+              piece = s .piece ++ got .bytes;
+              wrote = s .wrote ▷ got .wrote;
+              spells = chained ∙ rw (got .spells) (behind-behind (s .piece) (got .bytes) (spell complement ss (stepsFrom text work b (i + 1) end)));
             }
 
     -- a bad step
-    pub so-far-bad : {k : ℕ} {name : Place} {end : List ℕ} → r ≡ Bad k name → SpeltIs text limit before at end (spell complement ss all) r
+    pub so-far-bad : {k : ℕ} {name : Place} {last : List ℕ} → r ≡ Bad k name → SpeltIs text limit before at last (spell complement (segmentsOf text work b n) (stepsFrom text work b first end)) r
     unfolding chain behind
     so-far-bad e =
         let got = rw e at (one .says) in
-        rw e (record { says = record { spells = sofar .spells ∙ rw (here, spell-chain ss s more, got .spells); inside = got .inside } })
+        rw e (record { says = record { spells = chained ∙ rw (got .spells); inside = got .inside } })
 
   -- after the last step
-  pub so-far-all : {text out : List ℕ} {next : ℕ} {rest : List Step} → rest ≡ [] → SoFar limit before at out next ss all rest
-      → SpeltIs text limit before at out (spell complement ss all) (Bytes next)
+  pub so-far-end : {out : List ℕ} {next i : ℕ} → SoFar limit before at text work b n first end out next i → end ≤ i
+      → SpeltIs text limit before at out (spell complement (segmentsOf text work b n) (stepsFrom text work b first end)) (Bytes next)
   unfolding behind spell
-  so-far-all e sofar = record { says = record { bytes = sofar .piece; spells = sofar .spells ∙ rw (e, append-nil); wrote = sofar .wrote } }
+  so-far-end {i = i} s h = record { says = record { bytes = s .piece; spells = s .spells ∙ rw (steps-none text work b i end h, append-nil); wrote = s .wrote } }
 
 -- Where steps are known to spell bytes, the speller wrote them, whatever it answered.
 pub spelt-wrote : {text : List ℕ} {limit : ℕ} {before : List ℕ} {at : ℕ} {after : List ℕ} {s : Spelt} (r : code.Spelt) (bs : List ℕ)
@@ -179,11 +203,12 @@ stop-bad es p ps k name e = rw (e, badStep)
 
 -- The search at path i: the first bad step is that of the paths from there on.
 pub record Seeking (text work : List ℕ) (b : Bases) (n : Counts) (i : ℕ) : Type 0 where
+  pub high : i ≤ n .paths
   pub left : (es : List Entry) → segments es ≡ segmentsOf text work b n → paths es ≡ pathsTo text work b (n .paths) → badStep es (paths es) ≡ badStep es (pathsFrom text work b n i)
 
 module _ {text work : List ℕ} {b : Bases} {n : Counts} where
   pub seeking-start : Seeking text work b n 0
-  seeking-start = record { left = λ es s p. ap (badStep es) (p ∙ paths-all text work b n) }
+  seeking-start = record { high = omega arith; left = λ es s p. ap (badStep es) (p ∙ paths-all text work b n) }
 
   pub seeking-end : {i : ℕ} → Seeking text work b n i → n .paths ≤ i → BadStepIs text work b n steps.Known
   unfolding badStep
@@ -201,7 +226,7 @@ module _ {text work : List ℕ} {b : Bases} {n : Counts} where
         let got = rw e at (one .says) in
         let good : (es : List Entry) → segments es ≡ segmentsOf text work b n → badStep es (pathsFrom text work b n i) ≡ badStep es (pathsFrom text work b n (i + 1))
         = λ es s. rw (paths-next text work b n i h) (pass-good es (pathNo text work b i) _ (got .bytes) (here es (spelt (got .bytes)) s (got .spells))) in
-        record { left = λ es s p. k .left es s p ∙ good es s }
+        record { high = omega arith; left = λ es s p. k .left es s p ∙ good es s }
 
     pub seeking-bad : {m : ℕ} {name : Place} {a : Answer} → r ≡ Bad m name → a ≡ badAnswer r → BadStepIs text work b n (steps.Bad a)
     seeking-bad {m} {name} e g =

@@ -14,7 +14,7 @@ use Rattle.tables.specs.Segments.{segmentsAt}
 use Rattle.tables.specs.Links.{linksAt}
 use Rattle.tables.specs.Paths.{pathsAt}
 use Rattle.tables.specs.Entries.{recordAt, entryOf, entryAt, entriesAt, Fits}
-use Rattle.tables.specs.Tables.{rowsOf, Laid, Sound}
+use Rattle.tables.specs.Tables.{rowsOf, Laid, Sound, Tables, Readable}
 use Rattle.work.proofs.Rows.{KeptWords, only-kept, kept-within, rows-kept}
 use Rattle.tables.proofs.TableRows.{segment-kept, segments-kept, segment-rows-kept, link-kept, links-kept, link-rows-kept, step-rows-kept, path-kept, paths-kept, path-row-kept, record-kept}
 
@@ -99,3 +99,7 @@ tables-stand {text} {b = b} {n = n} l s k =
       of-paths = paths-kept text (b .steps) (b .paths) (n .paths) (n .steps) (t .paths) (t .steps) (s .paths);
       sound = sound-kept text b n t s;
     }
+
+-- tables that were read may be read again
+pub readable : {text before work : List ℕ} {b : Bases} {n : Counts} → Tables text before work b n → Readable text work b n
+readable t = record { laid = t .laid; few = t .few; sound = t .sound }

@@ -1,6 +1,7 @@
 -- `report::services::answer_report` meets its contract: the text is refused, or reported. Assumes nothing.
 use borrow.Author.Needs.{needs}
-use Rattle.report.proofs.Answering.{report-refused, input-readable, input-tabled, input-reportable, report-answered}
+use Rattle.reader.proofs.Serving.{input-readable}
+use Rattle.report.proofs.Answering.{report-refused, input-tabled, input-reportable, report-answered}
 use Rattle.report.proofs.services.answer_report.Statement.{statement}
 use Rattle.report.proofs.services.answer_report.Tie as tie
 

@@ -1,10 +1,8 @@
 -- `speller::services::answer_path` meets its contract: the text is refused, no path has the number, or the path is spelled. Assumes nothing.
 use native.Mathlib.Omega.{arith}
-use mathlib.Core.Path.{refl}
 use borrow.Author.Needs.{needs}
-use Rattle.reader.proofs.Serving.{was-read}
-use Rattle.runs.proofs.Totals.{readable}
-use Rattle.speller.proofs.Serving.{answered-refused, answered-no-path, answered-path}
+use Rattle.reader.proofs.Serving.{input-readable}
+use Rattle.speller.proofs.Serving.{answered-refused, answered-no-path, path-small, answered-path}
 use Rattle.speller.proofs.services.answer_path.Statement.{statement}
 use Rattle.speller.proofs.services.answer_path.Tie as tie
 
@@ -24,7 +22,7 @@ same-length : tie.Need-same-length
 same-length c = search needs
 
 returns : tie.Need-returns
-returns c = answered-refused _ (c .before .before .before .before .before .parse-gfa .ensures) (c .before .enum-told .given .1) (c .refused-with .ensures) refl
+returns c = search answered-refused
 
 plain-requires : tie.Need-plain-requires
 plain-requires c κs = search needs
@@ -33,16 +31,16 @@ same-length-2 : tie.Need-same-length-2
 same-length-2 c = search needs
 
 returns-2 : tie.Need-returns-2
-returns-2 c = answered-no-path _ (c .before .before .before .before .before .before .before .before .parse-gfa .ensures) (c .before .before .before .before .input .given .1) (c .before .if1 .taken) (c .plain .ensures) refl
+returns-2 c = search answered-no-path
 
 cast-t14 : tie.Need-cast-t14
-cast-t14 c = let l = was-read (c .before .before .before .before .before .before .before .before .parse-gfa .ensures) (c .before .before .before .before .input .given .1) .tables in omega (arith, l .few .3, c .before .if1 .left)
+cast-t14 c = search path-small
 
 path-at-requires : tie.Need-path-at-requires
-path-at-requires c κs = (readable (was-read (c .before .before .before .before .before .before .before .before .parse-gfa .ensures) (c .before .before .before .before .input .given .1) .tables), omega (arith, c .before .if1 .left))
+path-at-requires c κs = (search input-readable, omega arith)
 
 spell-steps-requires : tie.Need-spell-steps-requires
-spell-steps-requires c κs = let p = c .before .before .path-at .ensures in (readable (was-read (c .before .before .before .before .before .before .before .before .before .before .before .parse-gfa .ensures) (c .before .before .before .before .before .before .before .input .given .1) .tables), p .low, p .high)
+spell-steps-requires c κs = (search input-readable, search needs, search needs)
 
 same-length-3 : tie.Need-same-length-3
 same-length-3 c = search needs
@@ -51,7 +49,7 @@ same-length-4 : tie.Need-same-length-4
 same-length-4 c = search needs
 
 returns-3 : tie.Need-returns-3
-returns-3 c = answered-path _ (c .before .before .before .before .before .before .before .before .before .before .before .before .before .before .parse-gfa .ensures) (c .before .before .before .before .before .before .before .before .before .before .input .given .1) (omega arith) (c .before .before .before .before .before .path-at .ensures) (c .before .before .spell-steps .ensures)
+returns-3 c = search answered-path
 
 pub answer-path-spec : {M : Type 1} → statement M
 answer-path-spec =

@@ -1,6 +1,5 @@
 -- `speller::services::spell_path` meets its contract: the answer, and a work area that was cleared. Assumes nothing.
 use native.Mathlib.Omega.{arith}
-use borrow.Author.Needs.{needs}
 use Rattle.reader.proofs.Serving.{served}
 use Rattle.speller.proofs.services.spell_path.Statement.{statement}
 use Rattle.speller.proofs.services.spell_path.Tie as tie
@@ -18,7 +17,7 @@ same-length-2 : tie.Need-same-length-2
 same-length-2 c = omega arith
 
 returns : tie.Need-returns
-returns c = served (c .before .before .before .before .before .before .before .before .answer-path .last .1 .1 .1 .0) (c .before .before .before .before .before .before .before .before .answer-path .ensures) (c .before .before .clear .ensures) (search needs)
+returns c = search served
 
 pub spell-path-spec : {M : Type 1} → statement M
 spell-path-spec =

@@ -1,19 +1,18 @@
 -- `spelling::spelling::bad_step` meets its contract. The loop's invariant: the first bad step is that of the paths from path i on. Assumes nothing.
-use Prim.Native.Nat.{_-_, _≤_}
-use native.Mathlib.Omega.{arith}
+use Prim.Native.Nat.{_-_}
 use borrow.Author.Needs.{needs}
 use Rattle.spelling.proofs.Spelled.{Seeking, seeking-start, seeking-more, seeking-bad, seeking-end}
 use Rattle.spelling.proofs.spelling.bad_step.Statement.{statement}
 use Rattle.spelling.proofs.spelling.bad_step.Tie as tie
 
 abbrev Inv-loop : tie.InvT-loop
-Inv-loop text work b n i₀ i = (i ≤ n .paths) × Seeking text work b n i
+Inv-loop text work b n i₀ i = Seeking text work b n i
 
 abbrev μ-loop : tie.MeasureT-loop
 μ-loop text work b n i₀ i = n .paths - i
 
 loop-holds : tie.Need-loop-holds Inv-loop μ-loop
-loop-holds c = (omega arith, seeking-start)
+loop-holds c = seeking-start
 
 cast-t10 : tie.Need-cast-t10 Inv-loop μ-loop
 cast-t10 c = search needs
@@ -37,7 +36,7 @@ refused-step-requires : tie.Need-refused-step-requires Inv-loop μ-loop
 refused-step-requires c κs = search needs
 
 returns : tie.Need-returns Inv-loop μ-loop
-returns c = seeking-bad (c .before .before .before .before .before .before .before .before .before .loop .inv .1) (c .before .before .before .before .before .before .before .if1 .taken) (c .before .before .before .before .before .before .path-at .ensures) (c .before .before .before .before .put-spelling .ensures) (c .before .enum-told2 .given .1) (c .refused-step .ensures)
+returns c = search seeking-bad
 
 add-i : tie.Need-add-i Inv-loop μ-loop
 add-i c = search needs
@@ -46,10 +45,10 @@ loop-less : tie.Need-loop-less Inv-loop μ-loop
 loop-less c = search needs
 
 loop-again : tie.Need-loop-again Inv-loop μ-loop
-loop-again c = (omega arith, seeking-more (c .before .before .before .before .before .before .before .before .loop .inv .1) (c .before .before .before .before .before .before .if1 .taken) (c .before .before .before .before .before .path-at .ensures) (c .before .before .before .put-spelling .ensures) (c .enum-told .given .1))
+loop-again c = search seeking-more
 
 returns-2 : tie.Need-returns-2 Inv-loop μ-loop
-returns-2 c = seeking-end (c .before .before .loop .inv .1) (c .if1 .left)
+returns-2 c = search seeking-end
 
 pub bad-step-spec : {M : Type 1} → statement M
 bad-step-spec =

@@ -17,22 +17,22 @@ enum-told : tie.Need-enum-told
 enum-told c = search needs
 
 returns : tie.Need-returns
-returns c = step-unknown (c .before .before .before .before .step-at .ensures) (c .before .before .sequence-of .ensures) (c .enum-told .given .1)
+returns c = search step-unknown
 
 is-star-requires : tie.Need-is-star-requires
-is-star-requires c κs = sequence-inside (c .before .before .before .before .before .step-at .ensures) (c .before .before .before .sequence-of .ensures) (c .before .seq .given .1)
+is-star-requires c κs = search sequence-inside
 
 returns-2 : tie.Need-returns-2
-returns-2 c = step-star (c .before .before .before .before .before .before .before .step-at .ensures) (c .before .before .before .before .before .sequence-of .ensures) (c .before .before .before .seq .given .1) (c .before .is-star .ensures .answer) (c .if1 .taken)
+returns-2 c = search step-star
 
 put-oriented-requires : tie.Need-put-oriented-requires
-put-oriented-requires c κs = sequence-inside (c .before .before .before .before .before .before .before .before .step-at .ensures) (c .before .before .before .before .before .before .sequence-of .ensures) (c .before .before .before .before .seq .given .1)
+put-oriented-requires c κs = search sequence-inside
 
 same-length : tie.Need-same-length
 same-length c = search needs
 
 returns-3 : tie.Need-returns-3
-returns-3 c = step-put (c .before .before .before .before .before .before .before .before .before .before .before .step-at .ensures) (c .before .before .before .before .before .before .before .before .before .sequence-of .ensures) (c .before .before .before .before .before .before .before .seq .given .1) (c .before .before .before .before .before .is-star .ensures .answer) (c .before .before .before .before .if1 .left) (c .before .before .put-oriented .ensures)
+returns-3 c = search step-put
 
 pub put-step-spec : {M : Type 1} → statement M
 put-step-spec =

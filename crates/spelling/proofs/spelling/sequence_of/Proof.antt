@@ -15,13 +15,13 @@ enum-told : tie.Need-enum-told
 enum-told c = search needs
 
 returns : tie.Need-returns
-returns c = sequence-unknown (c .before .before .segment-named .ensures) (c .enum-told .given .1)
+returns c = search sequence-unknown
 
 segment-at-requires : tie.Need-segment-at-requires
 segment-at-requires c κs = (search needs, search named-below)
 
 returns-2 : tie.Need-returns-2
-returns-2 c = sequence-found (c .before .before .before .before .before .segment-named .ensures) (c .before .before .before .k .given .1) (c .before .segment-at .ensures)
+returns-2 c = search sequence-found
 
 pub sequence-of-spec : {M : Type 1} → statement M
 sequence-of-spec =
