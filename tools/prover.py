@@ -13,6 +13,7 @@ from collections import namedtuple
 
 ROOT = os.path.dirname(os.path.dirname(os.path.abspath(__file__)))
 ANSWERS = os.path.join(ROOT, "crates", "replay", "stdin")
+LEAVES = os.path.join(ROOT, "crates", "leaves", "stdin")
 
 Case = namedtuple("Case", "label service arg room work number line start length text output stats")
 
@@ -21,7 +22,16 @@ Case = namedtuple("Case", "label service arg room work number line start length 
 
 
 def recorded(path=ANSWERS):
-    """the cases of a file"""
+    """the cases of a list of services"""
+    cases = listing(path)
+    for case in cases:
+        if not well_formed(case):
+            sys.exit(f"{path}: bad record: {case.service}: {case.label}")
+    return cases
+
+
+def listing(path):
+    """the cases of a list, of services or of leaves"""
     data, at, label, cases = open(path, "rb").read(), 0, "", []
     while at < len(data):
         end = data.index(b"\n", at)
@@ -34,7 +44,7 @@ def recorded(path=ANSWERS):
             text, output = data[at : at + size], data[at + size + 1 : at + size + 1 + answered]
             at += size + answered + 2
             case = Case(label, service, arg, room, work, number, place, start, length, text, output, stats)
-            if data[at - 1 : at] != b"\n" or not well_formed(case):
+            if data[at - 1 : at] != b"\n":
                 sys.exit(f"{path}: bad record: {label}: {line}")
             cases.append(case)
     return cases

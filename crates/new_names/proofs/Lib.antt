@@ -1,4 +1,4 @@
 -- Laws for the proofs of the code.
-pub mod Matching
 pub mod Sanitizing
+pub mod Likeness
 pub mod Naming

@@ -19,7 +19,7 @@ use Rattle.normalize_spec.proofs.NewNames.{name-parts}
 use Rattle.writers.specs.Writers.{Wrote}
 use Rattle.writers.proofs.Digits.{decimal-small, decimal-more}
 use Rattle.writers.proofs.Writing.{keeps, written}
-use Rattle.new_names.proofs.Sanitizing.{length-sanitized}
+use Rattle.new_names.proofs.Sanitizing.{length-sanitized-part}
 
 -- ---- lengths
 
@@ -55,6 +55,15 @@ suffix-short (suc k) h = omega (arith, decimal-short (suc k) h)
 pub tail-short : (count k : ℕ) → count ≤ 18446744073709551615 → k ≤ 18446744073709551615 → length (nameTail count k) ≤ 54
 unfolding nameTail bytes
 tail-short count k h l = simp length-append (omega (arith, decimal-short count h, suffix-short k l))
+
+-- a number has a digit
+digit-some : (n : ℕ) → 1 ≤ length (decimal n)
+digit-some n = by-order 10 n (λ l. rw (decimal-more n l, length-append) (omega arith)) (λ s. rw (decimal-small n s) (omega arith))
+
+-- and so a name at least 14 bytes more than the unit's
+tail-long : (count k : ℕ) → 14 ≤ length (nameTail count k)
+unfolding nameTail bytes
+tail-long count k = simp length-append (omega (arith, digit-some count))
 
 -- ---- in a buffer
 
@@ -103,22 +112,22 @@ part-split from m n text h =
     ap (λ (k : ℕ). take k (drop from text)) whole ∙ take-add m (n - m) (drop from text) ∙ rw drop-drop
 
 module _ (text : List ℕ) (unit size count k name long : ℕ) (inside : unit + size ≤ length text) (within : name + long ≤ length text) where
-  -- a name shorter than the unit's is another
-  pub name-shorter : long < size → false ≡ same (newName (part unit size text) count k) (part name long text)
+  -- a name that is too short is another
+  pub name-shorter : long < size + 14 → false ≡ same (newName (part unit size text) count k) (part name long text)
   name-shorter h =
-      let front = length-sanitized unit size text inside in
+      let front = length-sanitized-part unit size text inside in
       let other = length-part name long text within in
-      sym (same-length _ _ (λ e. omega (arith, ap length (name-parts (part unit size text) count k), length-append (sanitized (part unit size text)) (nameTail count k))))
+      sym (same-length _ _ (λ e. omega (arith, ap length (name-parts (part unit size text) count k), length-append (sanitized (part unit size text)) (nameTail count k), tail-long count k)))
 
   -- any other by its front and what stands behind it
-  name-both : size ≤ long → same (newName (part unit size text) count k) (part name long text) ≡
+  name-both : size + 14 ≤ long → same (newName (part unit size text) count k) (part name long text) ≡
       (same (sanitized (part unit size text)) (part name size text) && same (nameTail count k) (part (name + size) (long - size) text))
   name-both h =
-      let front = length-sanitized unit size text inside in
+      let front = length-sanitized-part unit size text inside in
       let other = length-part name size text (omega arith) in
-      rw (name-parts, part-split name size long text h) (same-append _ _ _ _ (omega arith))
+      rw (name-parts, part-split name size long text (omega arith)) (same-append _ _ _ _ (omega arith))
 
-  module _ {r : Bool} (h : size ≤ long) (front : r ≡ same (sanitized (part unit size text)) (part name size text)) where
+  module _ {r : Bool} (h : size + 14 ≤ long) (front : r ≡ same (sanitized (part unit size text)) (part name size text)) where
     -- the front is another
     pub name-front : not r ≡ true → false ≡ same (newName (part unit size text) count k) (part name long text)
     name-front e = sym (name-both h ∙ rw (← front, not-true r e))

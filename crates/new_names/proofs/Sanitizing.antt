@@ -21,17 +21,29 @@ getD-each f (x ∷ l) zero h = refl
 getD-each f (x ∷ l) (suc i) h = getD-each f l i (omega arith)
 
 -- a sanitized name is as long as the name
-pub length-sanitized : (from n : ℕ) (text : List ℕ) → from + n ≤ length text → length (sanitized (part from n text)) ≡ n
+pub length-sanitized : (xs : List ℕ) → length (sanitized xs) ≡ length xs
 unfolding sanitized
-length-sanitized from n text h = length-map (part from n text) _ ∙ length-part from n text h
+length-sanitized xs = length-map xs _
+
+pub length-sanitized-part : (from n : ℕ) (text : List ℕ) → from + n ≤ length text → length (sanitized (part from n text)) ≡ n
+length-sanitized-part from n text h = length-sanitized (part from n text) ∙ length-part from n text h
 
 -- each byte is the name's, or `_`
-pub getD-sanitized : (from n i : ℕ) (text : List ℕ) → from + n ≤ length text → i < n
-    → getD (sanitized (part from n text)) i 0 ≡ cond (isPlain (getD text (from + i) 0)) (getD text (from + i) 0) 95
+pub getD-sanitized : (xs : List ℕ) (i : ℕ) → i < length xs → getD (sanitized xs) i 0 ≡ cond (isPlain (getD xs i 0)) (getD xs i 0) 95
 unfolding sanitized
-getD-sanitized from n i text h k =
+getD-sanitized xs i h = getD-each (λ b. cond (isPlain b) b 95) xs i h
+
+pub getD-sanitized-part : (from n i : ℕ) (text : List ℕ) → from + n ≤ length text → i < n
+    → getD (sanitized (part from n text)) i 0 ≡ cond (isPlain (getD text (from + i) 0)) (getD text (from + i) 0) 95
+getD-sanitized-part from n i text h k =
     let long = length-part from n text h in
-    getD-each (λ b. cond (isPlain b) b 95) (part from n text) i (omega arith) ∙ rw (getD-part from n i text k)
+    getD-sanitized (part from n text) i (omega arith) ∙ rw (getD-part from n i text k)
+
+-- a sanitized name stays as it is
+pub sanitized-twice : (xs : List ℕ) → sanitized (sanitized xs) ≡ sanitized xs
+unfolding sanitized isPlain isDigit
+sanitized-twice [] = refl
+sanitized-twice (b ∷ bs) = by-test (isPlain b) (λ e. rw (e, e, sanitized-twice bs)) (λ e. rw (e, sanitized-twice bs))
 
 -- ---- plain bytes
 

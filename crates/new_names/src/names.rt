@@ -61,7 +61,8 @@ fn is_tail(text: &[u8], from: usize, n: usize, count: usize, suffix: usize) -> b
     same_constant(text, from, n, &tail[..end])
 }
 
-// Is the name that is the `long` bytes of `text` from `name` on the name of the unit that is the `size` bytes from `unit` on?
+// Is the name that is the `long` bytes of `text` from `name` on the name of the unit that is the `size` bytes from `unit` on? Such a name has at
+// least 14 bytes more than the unit's.
 pub fn is_new_name(
     text: &[u8],
     unit: usize,
@@ -74,7 +75,7 @@ pub fn is_new_name(
     requires { ⌜ (unit + size ≤ length (now text)) × (name + long ≤ length (now text)) ⌝ }
     ensures { λ r. ⌜ r ≡ same (newName (part unit size (now (text .entry))) count suffix) (part name long (now (text .entry))) ⌝ }
 {
-    if long < size {
+    if long < size + 14 {
         return false;
     }
     if !is_sanitized(text, unit, name, size) {

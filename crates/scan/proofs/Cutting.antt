@@ -25,6 +25,13 @@ part-range from to l h =
     let e : from + (to - from) ≡ to = omega arith in
     part-slice from (to - from) l ∙ rw e
 
+-- the bytes between a part's start and its end, as code cuts them out
+pub part-between : (from n : ℕ) (l : List ℕ) → take (from + n - from) (drop from l) ≡ part from n l
+unfolding part
+part-between from n l =
+    let e : from + n - from ≡ n = omega arith in
+    rw e
+
 -- ---- the first separator
 
 -- the parts behind the first: none at the end, else those behind the separator

@@ -1,66 +1,86 @@
--- The comparison of two names: its state, and how it goes on; and the name `*`. Assumes nothing.
+-- Two strings of one length compared from the last byte back: the state, how it goes on, and what the answer says; and the name `*`. Assumes nothing.
 use Prim.Native.Nat.{ℕ, suc, _+_, _-_, _≤_, _<_}
-use native.Mathlib.Nat.{add-zero, add-suc}
-use native.Mathlib.Numerals.{add-one}
 use native.Mathlib.Omega.{arith}
-use mathlib.Core.Bool.{Bool, true, false, _&&_}
+use mathlib.Core.Bool.{true, false}
 use mathlib.Core.List.{List, [], _∷_}
-use mathlib.Core.Path.{_≡_, refl, sym, _∙_}
+use mathlib.Core.Path.{_≡_, sym}
 use lib.Dec.{eqb}
 use lib.ListN.{length, getD}
-use lib.Seq.{slice, slice-cons, slice-empty}
-use borrow.Author.Tests.{eq-eqb, ne-eqb}
-use Rattle.gfa_spec.specs.Bytes.{part, same, star}
-use Rattle.scan.specs.Places.{SameIs, StarIs}
-use Rattle.gfa_spec.proofs.Comparing.{same-length, same-star}
+use Rattle.gfa_spec.specs.Bytes.{part, same, star, AgreeFrom, LastAt, DifferenceSays}
+use Rattle.scan.specs.declared.names.Difference.{Difference}
+use Rattle.scan.specs.declared.names.Difference.the-variants.{At, Nowhere}
+use Rattle.scan.specs.Differences.{placeOf, DifferenceIs}
+use Rattle.scan.specs.Places.{StarIs}
+use Rattle.gfa_spec.proofs.Comparing.{same-length, same-star, agree-back, last-back, agree-all, says-last, same-differ}
 use Rattle.gfa_spec.proofs.Parts.{part-cons, length-part}
-use Rattle.scan.proofs.Cutting.{part-slice}
+use Rattle.gfa_spec.proofs.Tests.{equal-same}
 
--- the names as ranges
-parts : (text : List ℕ) (a m b n : ℕ) {r : Bool} → r ≡ same (slice a (a + m) text) (slice b (b + n) text) → r ≡ same (part a m text) (part b n text)
-parts text a m b n e = rw (part-slice a m text, part-slice b n text) e
+-- ---- from the last byte back
 
--- The state: the names are the same where what follows their first i bytes is.
-pub record Comparing (text : List ℕ) (a m b n i : ℕ) : Type 0 where
-  pub first : a + m ≤ length text
-  pub second : b + n ≤ length text
-  pub long : m ≡ n
-  pub high : i ≤ m
-  pub rest : same (slice a (a + m) text) (slice b (b + n) text) ≡ same (slice (a + i) (a + m) text) (slice (b + i) (b + n) text)
+-- The state at k: the last k bytes of the strings are equal.
+pub record Backward (xs ys : List ℕ) (k : ℕ) : Type 0 where
+  pub long : length xs ≡ length ys
+  pub high : k ≤ length xs
+  pub agree : AgreeFrom xs ys (length xs - k)
 
-module _ {text : List ℕ} {a m b n : ℕ} where
-  pub names-differ : (a + m ≤ length text) × (b + n ≤ length text) → (m ≡ n → ⊥) → SameIs text a m b n false
-  names-differ h e = record { answer = sym (same-length _ _ (λ p. e (omega (arith, p, length-part a m text (h .0), length-part b n text (h .1))))) }
+-- what such an answer says is the definition's
+answers : (xs ys : List ℕ) (r : Difference) → length xs ≡ length ys → DifferenceSays xs ys (placeOf r) → DifferenceIs xs ys r
+answers xs ys r h s = record { place = says-last xs ys (placeOf r) h s; says = s }
 
-  pub names-start : (a + m ≤ length text) × (b + n ≤ length text) → m ≡ n → Comparing text a m b n 0
-  names-start h e = record { first = h .0; second = h .1; long = e; high = omega arith; rest = rw (add-zero a, add-zero b) refl }
+module _ {xs ys : List ℕ} where
+  pub back-start : length xs ≡ length ys → Backward xs ys 0
+  back-start h = record { long = h; high = omega arith; agree = record { bytes = λ i l m. absurd (omega arith) } }
 
-  module _ {i : ℕ} (s : Comparing text a m b n i) where
-    -- both names by their byte i
-    step : i < m → same (slice a (a + m) text) (slice b (b + n) text) ≡
-        (eqb (getD text (a + i) 0) (getD text (b + i) 0) && same (slice (suc (a + i)) (a + m) text) (slice (suc (b + i)) (b + n) text))
-    unfolding same
-    step h = s .rest ∙ rw (slice-cons (a + i) (a + m) text 0 (omega arith) (s .first), slice-cons (b + i) (b + n) text 0 (omega arith) (s .second))
+  module _ {k : ℕ} (s : Backward xs ys k) where
+    -- the byte before them
+    pub back-stop : k < length xs → (getD xs (length xs - 1 - k) 0 ≡ getD ys (length xs - 1 - k) 0 → ⊥) → DifferenceIs xs ys (At (length xs - 1 - k))
+    back-stop h d = answers xs ys (At (length xs - 1 - k)) (s .long) (last-back (omega arith) (s .agree) (omega arith) d)
 
-    pub names-stop : i < m → (getD text (a + i) 0 ≡ getD text (b + i) 0 → ⊥) → SameIs text a m b n false
-    names-stop h e = record { answer = parts text a m b n (sym (step h ∙ rw (ne-eqb _ _ e))) }
+    pub back-more : k < length xs → getD xs (length xs - 1 - k) 0 ≡ getD ys (length xs - 1 - k) 0 → Backward xs ys (k + 1)
+    back-more h e =
+        let at : length xs - 1 - k ≡ length xs - (k + 1) = omega arith in
+        record { long = s .long; high = omega arith; agree = rw at at (agree-back (omega arith) (s .agree) e) }
 
-    pub names-more : i < m → getD text (a + i) 0 ≡ getD text (b + i) 0 → Comparing text a m b n (i + 1)
-    names-more h e =
-        record {
-          first = s .first;
-          second = s .second;
-          long = s .long;
-          high = omega arith;
-          rest = step h ∙ rw (add-one, add-suc a i, add-suc b i, eq-eqb _ _ e);
-        }
+    -- there is none: all are equal
+    all-equal : length xs ≤ k → xs ≡ ys
+    all-equal h =
+        let at : length xs - k ≡ 0 = omega arith in
+        agree-all (s .long) (rw at at (s .agree))
 
-    pub names-end : m ≤ i → SameIs text a m b n true
-    unfolding same
-    names-end h =
-        let e : a + i ≡ a + m = omega arith in
-        let f : b + i ≡ b + n = omega arith in
-        record { answer = parts text a m b n (sym (s .rest ∙ rw (e, f, slice-empty (a + m) text, slice-empty (b + n) text))) }
+    pub back-end : length xs ≤ k → DifferenceIs xs ys Nowhere
+    back-end h = answers xs ys Nowhere (s .long) (all-equal h)
+
+    -- the answer that is yes or no
+    pub back-no : (getD xs (length xs - 1 - k) 0 ≡ getD ys (length xs - 1 - k) 0 → ⊥) → false ≡ same xs ys
+    back-no d = sym (same-differ xs ys (length xs - 1 - k) d)
+
+    pub back-yes : length xs ≤ k → true ≡ same xs ys
+    back-yes h = sym (equal-same xs ys (all-equal h))
+
+-- ---- what the answer says, by its cases
+
+module _ {xs ys : List ℕ} {r : Difference} (is : DifferenceIs xs ys r) where
+  module _ {i : ℕ} (e : r ≡ At i) where
+    last-at : LastAt xs ys i
+    last-at = rw e at (is .says)
+
+    pub difference-inside : i < length xs
+    difference-inside = last-at .inside
+
+    pub difference-behind : AgreeFrom xs ys (suc i)
+    difference-behind = last-at .behind
+
+    pub difference-no : false ≡ same xs ys
+    difference-no = sym (same-differ xs ys i (last-at .differ))
+
+  module _ (e : r ≡ Nowhere) where
+    pub difference-none : xs ≡ ys
+    difference-none = rw e at (is .says)
+
+    pub difference-yes : true ≡ same xs ys
+    difference-yes = sym (equal-same xs ys difference-none)
+
+-- ---- `*`
 
 -- a part of one byte
 pub one-byte : (text : List ℕ) (at size : ℕ) → at + size ≤ length text → size ≡ 1 → part at size text ≡ getD text at 0 ∷ []

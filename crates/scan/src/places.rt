@@ -1,6 +1,8 @@
 // Places in a text: bytes, lines and fields.
 ghost use Prim.Native.Nat.{_+_, _≤_, _<_};
 ghost use lib.ListN.{length};
+ghost use mathlib.Core.Path.{_≡_};
+ghost use Rattle.gfa_spec.specs.Bytes.{part};
 ghost use Rattle.scan.specs.Places.{FirstIs, TrimmedIs, NextLineIs, FieldIs};
 
 // A line: its first byte, its length without the line end, and where the next one starts.
@@ -14,6 +16,15 @@ pub struct Line {
 pub enum Field {
     Found(usize, usize),
     Missing,
+}
+
+// The `n` bytes of `text` from `from` on.
+pub fn bytes_at(text: &[u8], from: usize, n: usize) -> &[u8]
+    requires { ⌜ from + n ≤ length (now text) ⌝ }
+    ensures { λ r. ⌜ now r ≡ part from n (now (text .entry)) ⌝ }
+{
+    let end = from + n;
+    &text[from..end]
 }
 
 // The first place of `byte` from `from` up to `to`, or `to`.

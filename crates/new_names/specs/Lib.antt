@@ -1,0 +1,2 @@
+-- What the contracts of the comparison of names say.
+pub mod Likeness
