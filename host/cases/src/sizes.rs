@@ -14,6 +14,8 @@ pub enum Shape {
     LongRuns,
     /// Names of which 64 each become the same new name.
     Clashes,
+    /// Names that share their first 40 bytes and differ in the last 4.
+    Beginnings,
     /// Many segments, every line with CRLF.
     Crlf,
     /// Many segments and steps, no self-link.
@@ -21,12 +23,13 @@ pub enum Shape {
 }
 
 impl Shape {
-    pub const ALL: [Shape; 7] = [
+    pub const ALL: [Shape; 8] = [
         Shape::Segments,
         Shape::Links,
         Shape::LongPaths,
         Shape::LongRuns,
         Shape::Clashes,
+        Shape::Beginnings,
         Shape::Crlf,
         Shape::NothingToFold,
     ];
@@ -38,6 +41,7 @@ impl Shape {
             Shape::LongPaths => "long-paths",
             Shape::LongRuns => "long-runs",
             Shape::Clashes => "clashes",
+            Shape::Beginnings => "beginnings",
             Shape::Crlf => "crlf",
             Shape::NothingToFold => "nothing-to-fold",
         }
@@ -56,6 +60,7 @@ pub fn text(shape: Shape, bytes: usize) -> Vec<u8> {
         Shape::LongPaths => paths(bytes, 3),
         Shape::LongRuns => paths(bytes, bytes / 16),
         Shape::Clashes => nodes(bytes, "\n", &clashing, true),
+        Shape::Beginnings => nodes(bytes, "\n", &beginning, true),
         Shape::Crlf => nodes(bytes, "\r\n", &numbered, true),
         Shape::NothingToFold => nodes(bytes, "\n", &numbered, false),
     }
@@ -77,6 +82,15 @@ fn clashing(number: usize) -> String {
     const MARKS: &[u8; 8] = b"!$%&()/?";
     let mark = |place: usize| char::from(MARKS[number / place % 8]);
     format!("g{}{}{}", number / 64, mark(8), mark(1))
+}
+
+/// A cultivar and a chromosome, 40 bytes, and a number of 4 digits: up to 10,000
+/// are distinct.
+fn beginning(number: usize) -> String {
+    format!(
+        "Hordeum_vulgare.Morex.V3.chromosome_5H.p{:04}",
+        number % 10_000
+    )
 }
 
 /// Segments, their self-links if asked for, and a path that visits each twice.
@@ -178,6 +192,15 @@ mod tests {
                     assert_eq!(answer.stats[6] > 0, folds, "{shape:?} {bytes}");
                 }
             }
+        }
+    }
+
+    #[test]
+    fn beginnings_are_shared() {
+        for number in [0, 7, 4_200, 9_999] {
+            let name = beginning(number);
+            assert_eq!(name.len(), 44);
+            assert_eq!(name[..40], beginning(0)[..40]);
         }
     }
 
