@@ -1,4 +1,6 @@
 // What the two programs print (document 01, "The four services").
+#![tactic(auto)]
+
 ghost use Rattle.std.specs.Prelude.{◌≡◌, length};
 ghost use Rattle.writers.specs.Writers.{Wrote};
 ghost use Rattle.console.specs.Printed.{refusal_text, ShownIs};

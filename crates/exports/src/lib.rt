@@ -1,4 +1,6 @@
 // The services for C and Rust: include/yeshqoram.h declares them. A slice is passed as the address of its first element and its length.
+#![tactic(auto)]
+
 ghost use Rattle.std.specs.Prelude.{length};
 ghost use Rattle.gfa_spec.specs.Services.{spell_path};
 ghost use Rattle.report_spec.specs.Services.{report_text};

@@ -1,4 +1,6 @@
 // Prints standard input, which has at most 2,048 bytes, normalized with no cap; or the lines of a refusal.
+#![tactic(auto)]
+
 ghost use Rattle.std.specs.Prelude.{length};
 ghost use Rattle.normalize_spec.specs.Services.{normalize};
 ghost use Rattle.normalize_answers.specs.Answered.{outcome_of};

@@ -1,4 +1,6 @@
 // Prints the report on standard input, which has at most 2,048 bytes, with ten nodes; or the lines of a refusal.
+#![tactic(auto)]
+
 ghost use Rattle.std.specs.Prelude.{length};
 ghost use Rattle.report_spec.specs.Services.{report_text};
 ghost use Rattle.console.specs.Printed.{limited, Prints};

@@ -1,5 +1,7 @@
 // Calls each leaf on the cases of the list that is this program's standard input, and compares its answer and its output buffer, which
 // holds a pattern before the call. docs/ANSWERS.md says the format.
+#![tactic(auto)]
+
 ghost use Rattle.std.specs.Prelude.{◌-◌, ◌≤◌, length};
 ghost use Rattle.gfa_spec.specs.Bytes.{part};
 ghost use Rattle.cases.specs.Cases.{Tells, CaseIs, LeftBytes};

@@ -1,4 +1,6 @@
 // The links of the rewritten text: which are removed, which are kept, and which are added.
+#![tactic(auto)]
+
 pub mod lookup;
 pub mod pairs;
 pub mod settle;

@@ -1,5 +1,7 @@
 // Replays the recorded answers, which are this program's standard input: each call gets buffers that are filled with a
 // pattern, and its answer, all of its output and all of its work area are compared.
+#![tactic(auto)]
+
 ghost use Rattle.std.specs.Prelude.{◌+◌, ◌≤◌, ◌<◌, length};
 ghost use Rattle.cases.specs.Cases.{CaseIs};
 

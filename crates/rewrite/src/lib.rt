@@ -1,4 +1,6 @@
 // The rewritten text (document 01, rule 7), written from the tables.
+#![tactic(auto)]
+
 pub mod lines;
 pub mod links;
 pub mod news;

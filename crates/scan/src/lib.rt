@@ -1,4 +1,6 @@
 // What is read of a text without tables: lines, fields, names, sequences and numbers.
+#![tactic(auto)]
+
 pub mod names;
 pub mod numbers;
 pub mod places;

@@ -1,2 +1,4 @@
 // The service that spells a path.
+#![tactic(auto)]
+
 pub mod services;

@@ -1,4 +1,6 @@
 // The tables of a text: where they are, and their rows by number.
+#![tactic(auto)]
+
 pub mod entry;
 pub mod kinds;
 pub mod rows;

@@ -1,2 +1,4 @@
 // The work area: words that are read, rows that are stored.
+#![tactic(auto)]
+
 pub mod work;

@@ -1,0 +1,5 @@
+-- `writers::numbers::put_decimal` meets its contract. The measure is the number.
+use Rattle.writers.proofs.numbers.+put_decimal.Given as goal
+
+abbrev pub decreases-put_decimal : goal.decreases-put_decimal
+decreases-put_decimal l = l.n
