@@ -9,7 +9,7 @@ use writers::bytes::advance;
 // A case: its header starts at `start`, its name ends at `blank` and the header at `end`, its text starts at `text` and ends at `stop`,
 // its output starts at `output` and ends at `last`, and the header of the next case starts at `next`. A case that its list cuts off ends
 // where the list ends.
-#[derive(Drop)]
+#[derive(Clone, Copy)]
 pub struct Case {
     pub start: usize,
     pub blank: usize,

@@ -17,7 +17,7 @@ use tables::tables::{Bases, Counts};
 use work::work::word;
 
 // A node, and how many new segments there are with it.
-#[derive(Drop)]
+#[derive(Clone, Copy)]
 pub struct Target {
     pub node: usize,
     pub segs: usize,

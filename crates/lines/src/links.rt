@@ -37,7 +37,7 @@ pub fn parse_orientation(text: &[u8], at: usize, size: usize, n: usize) -> Check
 }
 
 // An end of a link: the place of its segment's name, and its orientation; or the number of the refusal.
-#[derive(Drop)]
+#[derive(Clone, Copy)]
 pub enum End {
     At(Place, usize),
     Refused(usize),
@@ -60,7 +60,7 @@ pub fn end_of(text: &[u8], start: usize, size: usize, name: usize, mark: usize, 
 }
 
 // The fields of an L line: the words of its row, or the number of its refusal.
-#[derive(Drop)]
+#[derive(Clone, Copy)]
 pub enum LinkFields {
     Row(LinkWords),
     Refused(usize),

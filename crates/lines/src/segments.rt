@@ -14,7 +14,7 @@ use tables::segments::{Found, find_segment};
 use tables::tables::{Bases, Counts, one_more};
 
 // The fields of an S line: the words of its row, or that there are too few.
-#[derive(Drop)]
+#[derive(Clone, Copy)]
 pub enum SegmentFields {
     Row(SegmentWords),
     Short,

@@ -6,7 +6,7 @@ use scan::places::find;
 use tables::kinds::PathKind;
 
 // The sorts of lines.
-#[derive(Drop)]
+#[derive(Clone, Copy)]
 pub enum Sort {
     Blank,
     Comment,

@@ -21,7 +21,7 @@ use tables::tables::{Bases, Counts};
 use writers::bytes::put_bytes;
 
 // The number of the node that has a name, or none.
-#[derive(Drop)]
+#[derive(Clone, Copy)]
 pub enum Node {
     At(usize),
     Nothing,

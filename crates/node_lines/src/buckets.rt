@@ -10,7 +10,7 @@ use writers::bytes::{put_byte, put_constant};
 use writers::numbers::put_decimal;
 
 // A group: where it ends, its nodes' length and their self-links.
-#[derive(Drop)]
+#[derive(Clone, Copy)]
 pub struct Group {
     pub end: usize,
     pub long: usize,
@@ -18,7 +18,7 @@ pub struct Group {
 }
 
 // A bucket that was written: where its group ends, and the place behind it.
-#[derive(Drop)]
+#[derive(Clone, Copy)]
 pub struct Bucket {
     pub end: usize,
     pub next: usize,

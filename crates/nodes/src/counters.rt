@@ -9,7 +9,7 @@ use work::work::{put_row, word};
 
 // The counters of a node: visits; paths that visit it, and the number of the last of them plus one; adjacent pairs on it and equal
 // ones; runs of two or more, the longest of them, and the number of the first path that has one of that length plus one.
-#[derive(Drop)]
+#[derive(Clone, Copy)]
 pub struct Counter {
     pub visits: usize,
     pub paths: usize,

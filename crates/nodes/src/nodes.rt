@@ -11,7 +11,7 @@ use tables::rows::{LinkWords, Place};
 use work::work::{put_row, word};
 
 // What the links say of a node: its name, its segment's number plus one or 0, the sequence's length, its self-links, their pairs.
-#[derive(Drop)]
+#[derive(Clone, Copy)]
 pub struct NodeWords {
     pub name: Place,
     pub number: usize,
@@ -21,7 +21,7 @@ pub struct NodeWords {
 }
 
 // The number of a node; or none.
-#[derive(Drop)]
+#[derive(Clone, Copy)]
 pub enum TableRow {
     At(usize),
     Nowhere,

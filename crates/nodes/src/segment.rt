@@ -9,7 +9,7 @@ use tables::segments::Found;
 use tables::tables::{Bases, Counts};
 
 // A segment's number plus one, or 0 where there is none, and the length of its sequence.
-#[derive(Drop)]
+#[derive(Clone, Copy)]
 pub struct Known {
     pub number: usize,
     pub long: usize,

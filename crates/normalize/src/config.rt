@@ -2,7 +2,7 @@
 ghost use Rattle.std.specs.Prelude.{◌≡◌};
 
 // The largest length of a sequence that may be folded; 0 is no cap (rule 1).
-#[derive(Drop)]
+#[derive(Clone, Copy)]
 pub struct NormalizeSelfLoopsConfig {
     pub max_unit_len: usize,
 }

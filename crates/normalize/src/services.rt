@@ -24,7 +24,7 @@ use targets::folded::any_folded;
 use work::work::clear;
 
 // What is known once rules 1 and 2 were tried: where the tables of folding are, the counters of the text as it is, and whether any segment is folded.
-#[derive(Drop)]
+#[derive(Clone, Copy)]
 pub struct Decision {
     pub g: Layout,
     pub stats: NormalizeSelfLoopsStats,

@@ -10,7 +10,7 @@ use writers::bytes::put_constant;
 
 // What a normalization returns: its answer, and its statistics, which are all 0 on a refusal.
 #[repr(C)]
-#[derive(Drop)]
+#[derive(Clone, Copy)]
 pub struct NormalizeSelfLoopsResult {
     pub answer: Answer,
     pub stats: NormalizeSelfLoopsStats,

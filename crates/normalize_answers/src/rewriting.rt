@@ -17,7 +17,7 @@ use runs::counts::Pairs;
 use tables::tables::{Bases, Counts};
 
 // What rules 4 to 6 made and counted: new segments and steps, links, and pairs of the new paths.
-#[derive(Drop)]
+#[derive(Clone, Copy)]
 pub struct Passed {
     pub m: Made,
     pub l: Links,

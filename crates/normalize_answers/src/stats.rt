@@ -8,7 +8,7 @@ use tables::tables::{Bases, Counts};
 
 // The counters, named and ordered as in the Rust.
 #[repr(C)]
-#[derive(Drop)]
+#[derive(Clone, Copy)]
 pub struct NormalizeSelfLoopsStats {
     pub input_direct_self_loop_edges: usize,
     pub output_direct_self_loop_edges: usize,

@@ -8,7 +8,7 @@ use tables::tables::{Bases, Counts};
 
 // Where each table begins, in words of the work area: a mark for each segment that is eligible, a mark for each that is folded, the last
 // new segment on each; the new paths, the new segments, the new steps, the added links, and the ends of the links of the text.
-#[derive(Drop)]
+#[derive(Clone, Copy)]
 pub struct Layout {
     pub eligible: usize,
     pub folded: usize,
@@ -22,7 +22,7 @@ pub struct Layout {
 
 // What the transformation made: the number that the first new segment has where IDs are numbers, how many new segments and new steps
 // there are, how many runs were turned into one step, and how many paths have such a run.
-#[derive(Drop)]
+#[derive(Clone, Copy)]
 pub struct Made {
     pub first: u64,
     pub segs: usize,
@@ -32,7 +32,7 @@ pub struct Made {
 }
 
 // The tables of a text and the normalizer's behind them, with what the transformation made so far.
-#[derive(Drop)]
+#[derive(Clone, Copy)]
 pub struct Area {
     pub b: Bases,
     pub n: Counts,

@@ -8,7 +8,7 @@ use tables::entry::{LinkNo, PathNo, SegmentNo};
 use work::work::{put_row, word};
 
 // A new segment's row: its unit, the run length, the suffix of its name, and the new segment before it on that unit, counted from 1, or 0.
-#[derive(Drop)]
+#[derive(Clone, Copy)]
 pub struct NewSegmentWords {
     pub unit: SegmentNo,
     pub count: usize,
@@ -17,21 +17,21 @@ pub struct NewSegmentWords {
 }
 
 // A new step's row: the number of its node, and its orientation.
-#[derive(Drop)]
+#[derive(Clone, Copy)]
 pub struct NewStepWords {
     pub node: usize,
     pub mark: usize,
 }
 
 // A new path's row: its new steps, from the first up to, not including, `end`.
-#[derive(Drop)]
+#[derive(Clone, Copy)]
 pub struct NewPathWords {
     pub first: usize,
     pub end: usize,
 }
 
 // The row of a link's ends: the words for its nodes, and 1 where it is removed, else 0.
-#[derive(Drop)]
+#[derive(Clone, Copy)]
 pub struct Ends {
     pub from: usize,
     pub to: usize,

@@ -3,7 +3,7 @@ ghost use Rattle.std.specs.Prelude.{◌≡◌, length};
 
 // What every call answers: number 0 is acceptance, its length the bytes written; a field not named is 0 (document 01, "Refused calls").
 #[repr(C)]
-#[derive(Drop)]
+#[derive(Clone, Copy)]
 pub struct Answer {
     pub number: usize,
     pub line: usize,

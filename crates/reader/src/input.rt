@@ -9,21 +9,21 @@ use crate::reading::{Outcome, read_lines};
 use tables::tables::{Bases, Counts, bases_of};
 
 // A byte that no text has, by its refusal and its place; or none.
-#[derive(Drop)]
+#[derive(Clone, Copy)]
 pub enum Bad {
     Nowhere,
     At(usize, usize),
 }
 
 // Whether the lines of a text may be read; or the refusal.
-#[derive(Drop)]
+#[derive(Clone, Copy)]
 pub enum Admission {
     Admitted,
     Refused(Answer),
 }
 
 // What became of a text: where its tables are and how many rows they have, or a refusal.
-#[derive(Drop)]
+#[derive(Clone, Copy)]
 pub enum Input {
     Tables(Bases, Counts),
     Refused(Answer),

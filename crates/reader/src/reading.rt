@@ -13,7 +13,7 @@ use tables::rows::put_line;
 use tables::tables::{Bases, Counts, one_more};
 
 // What became of a text: the rows of its tables, or a refusal's number and line.
-#[derive(Drop)]
+#[derive(Clone, Copy)]
 pub enum Outcome {
     Read(Counts),
     Refused(usize, usize),

@@ -10,7 +10,7 @@ use tables::rows::link_at;
 use work::work::word;
 
 // A new step and the step behind it.
-#[derive(Drop)]
+#[derive(Clone, Copy)]
 pub struct Pair {
     pub first: NewStepWords,
     pub second: NewStepWords,

@@ -10,7 +10,7 @@ use tables::entry::PathNo;
 use tables::tables::Counts;
 
 // How many links are added, and how many of them have equal ends.
-#[derive(Drop)]
+#[derive(Clone, Copy)]
 pub struct Tally {
     pub added: usize,
     pub loops: usize,

@@ -8,7 +8,7 @@ use normalize_tables::layout::Area;
 use runs::counts::self_links;
 
 // How many links are added and how many are removed, and how many of those that there are now have equal ends.
-#[derive(Drop)]
+#[derive(Clone, Copy)]
 pub struct Links {
     pub added: usize,
     pub removed: usize,

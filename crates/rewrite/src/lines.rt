@@ -10,7 +10,7 @@ use tables::rows::{Place, line_at, segment_at};
 use writers::pieces::put_line;
 
 // The classes of lines: headers, comments and blanks; other lines; and those that hold a numbered record.
-#[derive(Drop)]
+#[derive(Clone, Copy)]
 pub enum Class {
     Leading,
     Other,
@@ -18,7 +18,7 @@ pub enum Class {
 }
 
 // The class of a line, and the place of a raw line.
-#[derive(Drop)]
+#[derive(Clone, Copy)]
 pub struct Raw {
     pub class: Class,
     pub line: Place,

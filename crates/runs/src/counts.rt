@@ -14,7 +14,7 @@ use tables::rows::{LinkWords, link_at, path_at, step_at};
 use tables::tables::{Bases, Counts};
 
 // Adjacent pairs of steps: those on one node, and those of equal steps.
-#[derive(Drop)]
+#[derive(Clone, Copy)]
 pub struct Pairs {
     pub nodes: usize,
     pub steps: usize,

@@ -7,7 +7,7 @@ ghost use Rattle.scan.specs.Places.{SameIs, StarIs};
 use crate::places::bytes_at;
 
 // The last place where two strings of one length differ.
-#[derive(Drop)]
+#[derive(Clone, Copy)]
 pub enum Difference {
     At(usize),
     Nowhere,

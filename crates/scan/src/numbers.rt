@@ -5,7 +5,7 @@ ghost use Rattle.gfa_spec.specs.Decimal.{number_of};
 ghost use Rattle.scan.specs.Numbers.{number_answer, numeral};
 
 // The number that a string reads as, or none.
-#[derive(Drop)]
+#[derive(Clone, Copy)]
 pub enum Number {
     Value(u64),
     None,

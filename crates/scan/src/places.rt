@@ -4,7 +4,7 @@ ghost use Rattle.gfa_spec.specs.Bytes.{part};
 ghost use Rattle.scan.specs.Places.{FirstIs, TrimmedIs, NextLineIs, FieldIs};
 
 // A line: its first byte, its length without the line end, and where the next one starts.
-#[derive(Drop)]
+#[derive(Clone, Copy)]
 pub struct Line {
     pub start: usize,
     pub length: usize,
@@ -12,7 +12,7 @@ pub struct Line {
 }
 
 // A field of a line by its start and its length, where the line has so many.
-#[derive(Drop)]
+#[derive(Clone, Copy)]
 pub enum Field {
     Found(usize, usize),
     Missing,

@@ -16,21 +16,21 @@ use tables::tables::{Bases, Counts};
 use writers::bytes::advance;
 
 // The sequence of a segment; or no segment has the name.
-#[derive(Drop)]
+#[derive(Clone, Copy)]
 pub enum Sequence {
     At(Place),
     Unknown,
 }
 
 // What steps spell: the place behind their bytes; or the first bad step, by its refusal and its name.
-#[derive(Drop)]
+#[derive(Clone, Copy)]
 pub enum Spelt {
     Bytes(usize),
     Bad(usize, Place),
 }
 
 // Whether each step of all paths has a sequence; or the refusal of the first that has none.
-#[derive(Drop)]
+#[derive(Clone, Copy)]
 pub enum Steps {
     Known,
     Bad(Answer),

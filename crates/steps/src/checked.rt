@@ -1,7 +1,7 @@
 // What becomes of a field.
 
 // A value that was read, or the number of the refusal.
-#[derive(Drop)]
+#[derive(Clone, Copy)]
 pub enum Checked {
     Value(usize),
     Refused(usize),

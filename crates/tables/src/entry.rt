@@ -7,24 +7,24 @@ ghost use Rattle.tables.specs.Entries.{words_of, record_at};
 use work::work::put_row;
 
 // Numbers of segments, of links and of paths, each counted from 0.
-#[derive(Drop)]
+#[derive(Clone, Copy)]
 pub struct SegmentNo(pub u32);
 
-#[derive(Drop)]
+#[derive(Clone, Copy)]
 pub struct LinkNo(pub u32);
 
-#[derive(Drop)]
+#[derive(Clone, Copy)]
 pub struct PathNo(pub u32);
 
 // The place of a line in the text.
-#[derive(Drop)]
+#[derive(Clone, Copy)]
 pub struct RawLine {
     pub start: u32,
     pub length: u32,
 }
 
 // What a line holds: a numbered record, or a raw line of one of four sorts.
-#[derive(Drop)]
+#[derive(Clone, Copy)]
 pub enum Record {
     Segment(SegmentNo),
     Link(LinkNo),
@@ -36,13 +36,13 @@ pub enum Record {
 }
 
 // A line's entry.
-#[derive(Drop)]
+#[derive(Clone, Copy)]
 pub struct LineEntry {
     pub holds: Record,
 }
 
 // Three words.
-#[derive(Drop)]
+#[derive(Clone, Copy)]
 pub struct Words(pub usize, pub usize, pub usize);
 
 // The words of a record: its sort, and its number, or its start and its length.

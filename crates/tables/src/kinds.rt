@@ -3,7 +3,7 @@ ghost use Rattle.std.specs.Prelude.{◌≡◌, ◌≤◌};
 ghost use Rattle.tables.specs.Paths.{kind_of, kind_in, kind_word, column_of, short_of};
 
 // The kinds of paths: of P lines and of W lines.
-#[derive(Drop)]
+#[derive(Clone, Copy)]
 pub enum PathKind {
     P,
     W,

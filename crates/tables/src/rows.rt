@@ -14,14 +14,14 @@ use crate::tables::{Bases, Counts, LINE, LINK, PATH, SEGMENT, STEP};
 use work::work::{put_row, word};
 
 // A part of the text.
-#[derive(Drop)]
+#[derive(Clone, Copy)]
 pub struct Place {
     pub start: usize,
     pub size: usize,
 }
 
 // A segment's row.
-#[derive(Drop)]
+#[derive(Clone, Copy)]
 pub struct SegmentWords {
     pub line: Place,
     pub id: Place,
@@ -29,7 +29,7 @@ pub struct SegmentWords {
 }
 
 // A link's row.
-#[derive(Drop)]
+#[derive(Clone, Copy)]
 pub struct LinkWords {
     pub line: Place,
     pub from: Place,
@@ -39,7 +39,7 @@ pub struct LinkWords {
 }
 
 // A path's row: its kind, its line, and its steps, from the first up to, not including, `end`.
-#[derive(Drop)]
+#[derive(Clone, Copy)]
 pub struct PathWords {
     pub kind: PathKind,
     pub line: Place,
@@ -48,7 +48,7 @@ pub struct PathWords {
 }
 
 // A step's row.
-#[derive(Drop)]
+#[derive(Clone, Copy)]
 pub struct StepWords {
     pub name: Place,
     pub mark: usize,

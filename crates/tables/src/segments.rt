@@ -9,7 +9,7 @@ use scan::names::same_name;
 use work::work::word;
 
 // The segment that has a name, or none.
-#[derive(Drop)]
+#[derive(Clone, Copy)]
 pub enum Found {
     At(SegmentNo),
     Nothing,

@@ -14,7 +14,7 @@ pub const PATH: usize = 5;
 pub const STEP: usize = 3;
 
 // Where the tables begin, in words of the work area.
-#[derive(Drop)]
+#[derive(Clone, Copy)]
 pub struct Bases {
     pub lines: usize,
     pub segs: usize,
@@ -24,7 +24,7 @@ pub struct Bases {
 }
 
 // How many rows each table has.
-#[derive(Drop)]
+#[derive(Clone, Copy)]
 pub struct Counts {
     pub lines: usize,
     pub segs: usize,

@@ -20,4 +20,4 @@ returns c =
     let a = c.args in
     let long = length_part a.from a.n a.text.now (omega arith) in
     let front = part_front a.from a.n 48 a.text.now (omega arith) in
-    being (sym (preview_long _ (omega arith) ∙ ap (λ l. l ++ bytes "...") front)) (c.put-bytes2.ensures ▷ c.put_constant.ensures)
+    being (sym (preview_long _ (omega arith) ∙ ap (λ l. l ++ bytes "...") front)) (c.put_bytes-next.ensures ▷ c.put_constant.ensures)

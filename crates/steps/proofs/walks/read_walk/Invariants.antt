@@ -1,0 +1,10 @@
+-- `steps::walks::read_walk` meets its contract. The loop's invariant is the state between two steps. Assumes nothing.
+use Prim.Native.Nat.{◌+◌, ◌-◌}
+use Rattle.steps.proofs.Walking.{Walking}
+use Rattle.steps.proofs.walks.read_walk.Given as goal
+
+abbrev pub invariant-loop-at : goal.invariant-loop-at
+invariant-loop-at l = Walking l.text l.initial.work l.work l.base l.start l.size l.at l.n
+
+abbrev pub decreases-loop-at : goal.decreases-loop-at
+decreases-loop-at l = l.start + l.size - l.at
