@@ -55,12 +55,14 @@ longest_there (x ∷ xs) h =
     by_test (ltb x.count (longest xs))
     (λ e.
     let l : max x.count (longest xs) ≡ longest xs = omega (arith, ltb-true x.count (longest xs) e) in
-    rw (l, longest_there xs (omega (arith, ltb-true x.count (longest xs) e))) (last (eqb x.count (longest xs))))
+    later (max x.count (longest xs)) l (longest_there xs (omega (arith, ltb-true x.count (longest xs) e))))
     (λ e. rw (eq-eqb x.count (max x.count (longest xs)) (omega (arith, ltb-false x.count (longest xs) e))))
   where
     last : (t : Bool) → (t || true) ≡ true
     last true = refl
     last false = refl
+    later : (m : ℕ) → m ≡ longest xs → any (λ r. eqb r.count (longest xs)) xs ≡ true → (eqb x.count m || any (λ r. eqb r.count m) xs) ≡ true
+    later m e w = rw (e, w) (last (eqb x.count (longest xs)))
 
 -- no run is longer
 none_longer : (n : ℕ) (xs : List Run) → longest xs < n → any (λ r. eqb r.count n) xs ≡ false

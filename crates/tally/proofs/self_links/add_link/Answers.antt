@@ -23,8 +23,8 @@ count_link-requires c =
     let pre = c.requires in
     let tables-end = c.tables_end-table in
     let find-row = c.find_row in
-    let k = c.k-1 in
-    row_small pre tables-end.ensures find-row.ensures k.given.1
+    
+    row_small pre tables-end.ensures find-row.ensures c.in-At.is
 
 pub returns : goal.returns
 returns c = search linked_more

@@ -10,7 +10,7 @@ pub counter_at-c-requires : goal.counter_at-c-requires
 counter_at-c-requires c = search run_room
 
 pub counted-requires : goal.counted-requires
-counted-requires c = record { start_le_end = search run_fits_here; cases_in_bounds = (search rules, search rules) }
+counted-requires c = (search run_fits_here, search rules, search rules)
 
 pub put_counter-requires : goal.put_counter-requires
 put_counter-requires c = (search run_room, rw c.counted.ensures (counted_small _ (search run_fits_here) (search rules) (search rules)))
