@@ -1,0 +1,9 @@
+-- `new_ids::candidates::next_suffix` meets its contract. The loop's invariant is the state of the search.
+use Rattle.new_ids.proofs.Kin.{Backwards}
+use Rattle.new_ids.proofs.candidates.next_suffix.Given as goal
+
+abbrev pub invariant-loop-j : goal.invariant-loop-j
+invariant-loop-j l = Backwards l.text l.work l.a.b l.a.g l.a.m.first l.a.m.segs l.id l.count l.j
+
+abbrev pub decreases-loop-j : goal.decreases-loop-j
+decreases-loop-j l = l.j
