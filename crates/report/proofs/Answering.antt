@@ -45,7 +45,7 @@ use Rattle.nodes.proofs.Pairs.{bits_small}
 use Rattle.ranks.proofs.Merges.{nums_below}
 use Rattle.node_lines.proofs.Lengths.{sorted_rising}
 use Rattle.ranks.proofs.Numbering.{each_up}
-use Rattle.report.proofs.Reported.{number_small, EntriesAre, ranked_tabled, by_length, report_is}
+use Rattle.report.proofs.Reported.{number_small, EntriesAre, ranked_tabled, listed_by_length, report_is}
 use Rattle.work.specs.Rows.{word_of}
 
 -- ---- what the writers ask
@@ -122,7 +122,7 @@ module _ {es : List Entry} {text w w' : List ℕ} {b : Bases} {n : Counts} {m : 
         rows = row_printable;
         lengths = numbers_below _ (lengths_of b n) r.by_length;
         ranks = numbers_below _ (ranks_of b n) r.by_rank;
-        rising = rw (by_length x l r) (sorted_rising (map (node_of es) (nodes es)));
+        rising = rw (listed_by_length x l r) (sorted_rising (map (node_of es) (nodes es)));
       }
 
 -- ---- measured, and then refused or written

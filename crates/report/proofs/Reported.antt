@@ -243,16 +243,16 @@ module _ {es : List Entry} {text w w' : List ℕ} {b : Bases} {n : Counts} {m : 
       names = rw x.of_links (sym (names_up text w' (tables_end b n) m) ∙ r.table.names)
 
   -- in the two orders
-  pub by_length : listed text w' b n (lengths_of b n) m ≡ sort_by by_length (map (node_of es) (nodes es))
+  pub listed_by_length : listed text w' b n (lengths_of b n) m ≡ sort_by by_length (map (node_of es) (nodes es))
   unfolding listed
-  by_length = ap (map (node_in text w' b n)) r.by_length ∙ lengths_keys ∙ ap (sort_by by_length) node_list
+  listed_by_length = ap (map (node_in text w' b n)) r.by_length ∙ lengths_keys ∙ ap (sort_by by_length) node_list
     where
       lengths_keys : map (node_in text w' b n) (sort_by (λ i j. goes_by Lengths (node_key w' (tables_end b n) i) (node_key w' (tables_end b n) j)) (up_to m)) ≡ sort_by by_length (map (node_in text w' b n) (up_to m))
       lengths_keys = unfold by_length goes_by node_key node_in in sym (sort_map (node_in text w' b n) by_length (up_to m))
 
-  by_rank : listed text w' b n (ranks_of b n) m ≡ sort_nodes (map (node_of es) (nodes es))
+  listed_by_rank : listed text w' b n (ranks_of b n) m ≡ sort_nodes (map (node_of es) (nodes es))
   unfolding listed
-  by_rank = ap (map (node_in text w' b n)) r.by_rank ∙ ranks_keys ∙ ap (sort_by goes_before) node_list ∙ sym (sort_nodes_by (map (node_of es) (nodes es)))
+  listed_by_rank = ap (map (node_in text w' b n)) r.by_rank ∙ ranks_keys ∙ ap (sort_by goes_before) node_list ∙ sym (sort_nodes_by (map (node_of es) (nodes es)))
     where
       ranks_keys : map (node_in text w' b n) (sort_by (λ i j. goes_by Ranks (node_key w' (tables_end b n) i) (node_key w' (tables_end b n) j)) (up_to m)) ≡ sort_by goes_before (map (node_in text w' b n) (up_to m))
       ranks_keys = unfold goes_before goes_by by_rank by_links node_key node_in in sym (sort_map (node_in text w' b n) goes_before (up_to m))
@@ -263,7 +263,7 @@ module _ {es : List Entry} {text w w' : List ℕ} {b : Bases} {n : Counts} {m : 
 
   -- the first `top` of them
   first_ranks : (top : ℕ) → listed text w' b n (ranks_of b n) (min top m) ≡ take top (sort_nodes (map (node_of es) (nodes es)))
-  first_ranks top = cut ∙ ap (take top) by_rank
+  first_ranks top = cut ∙ ap (take top) listed_by_rank
     where
       cut : listed text w' b n (ranks_of b n) (min top m) ≡ take top (listed text w' b n (ranks_of b n) m)
       cut = unfold listed in taken (node_in text w' b n) w' (ranks_of b n) m top
@@ -278,5 +278,5 @@ module _ {es : List Entry} {text w w' : List ℕ} {b : Bases} {n : Counts} {m : 
       let d : t.steps ≡ same_step_pairs es = unfold same_step_pairs over_paths in rw x.of_paths (unfold over_rows in q.steps) in
       let e : t.runs ≡ length (join (map repeats (paths es))) = rw x.of_paths q.runs in
       let f : t.longest ≡ longestOf (join (map repeats (paths es))) = rw x.of_paths q.longest in
-      let g : buckets (listed text w' b n (lengths_of b n) m) ≡ map (bucket_line ns) (lengths ns) = ap buckets by_length ∙ buckets_sorted ns ∙ (unfold buckets in refl) in
+      let g : buckets (listed text w' b n (lengths_of b n) m) ≡ map (bucket_line ns) (lengths ns) = ap buckets listed_by_length ∙ buckets_sorted ns ∙ (unfold buckets in refl) in
       rw (ended_append, ended_append, how_many, ← a, ← c, ← d, ← e, ← f, ← g, first_ranks top) (unfold total_lines in refl)

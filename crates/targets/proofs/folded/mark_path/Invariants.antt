@@ -1,0 +1,10 @@
+-- `targets::folded::mark_path` meets its contract. The loop's invariant is its state at a step. Assumes nothing.
+use Prim.Native.Nat.{◌-◌}
+use Rattle.targets.proofs.FoldedMarks.{Marking}
+use Rattle.targets.proofs.folded.mark_path.Given as goal
+
+abbrev pub invariant-loop-i : goal.invariant-loop-i
+invariant-loop-i l = Marking l.text l.initial.work l.work l.b l.n l.marks l.first l.end l.i
+
+abbrev pub decreases-loop-i : goal.decreases-loop-i
+decreases-loop-i l = l.end - l.i
