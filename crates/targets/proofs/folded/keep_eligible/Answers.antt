@@ -6,7 +6,7 @@ pub loop-i-init : goal.loop-i-init
 loop-i-init c = search keeping_start
 
 pub loop-i-preserved : goal.loop-i-preserved
-loop-i-preserved c = keeping_more c.loop-i.invariant c.loop-i-test.true c.word-eligible.ensures c.word-folded.ensures c.still_Marked.ensures
+loop-i-preserved c = keeping_more c.loop-i.invariant c.loop-i-test.true c.word-eligible.ensures c.word-folded.ensures c.still_marked-mark.ensures
 
 pub returns : goal.returns
 returns c = search keeping_end

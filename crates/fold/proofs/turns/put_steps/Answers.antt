@@ -1,0 +1,12 @@
+use Prim.Native.Nat.{◌-◌}
+use Rattle.fold.proofs.Putting.{putting_start, putting_more, putting_end}
+use Rattle.fold.proofs.turns.put_steps.Goals as goal
+
+pub loop-i-init : goal.loop-i-init
+loop-i-init c = search putting_start
+
+pub loop-i-preserved : goal.loop-i-preserved
+loop-i-preserved c = search putting_more
+
+pub returns : goal.returns
+returns c = search putting_end
