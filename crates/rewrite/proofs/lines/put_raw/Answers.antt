@@ -1,0 +1,12 @@
+use Prim.Native.Nat.{◌-◌}
+use Rattle.writers.proofs.Rowing.{rowing_start, rowing_more, rowing_end}
+use Rattle.rewrite.proofs.lines.put_raw.Goals as goal
+
+pub loop-i-init : goal.loop-i-init
+loop-i-init c = search rowing_start
+
+pub loop-i-preserved : goal.loop-i-preserved
+loop-i-preserved c = search rowing_more
+
+pub returns : goal.returns
+returns c = search rowing_end
