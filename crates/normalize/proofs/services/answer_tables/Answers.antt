@@ -1,0 +1,9 @@
+-- `normalize::services::answer_tables` meets its contract: the text as it is, or folded. Assumes nothing.
+use Rattle.normalize.proofs.Deciding.{tables_folded, tables_returned}
+use Rattle.normalize.proofs.services.answer_tables.Goals as goal
+
+pub returns-then-d : goal.returns-then-d
+returns-then-d c = search tables_folded
+
+pub returns : goal.returns
+returns c = search tables_returned
