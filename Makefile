@@ -6,7 +6,7 @@ test:
 
 library:
 	@mkdir -p target
-	@rt staticlib exports > target/library.log 2>&1 || { tail -20 target/library.log; exit 1; }
+	@(cd crates/exports && rt lib) > target/library.log 2>&1 || { tail -20 target/library.log; exit 1; }
 
 run: library
 	@cargo run --release --offline --quiet --manifest-path host/Cargo.toml -p yeshqoram -- normalize $(FILE)

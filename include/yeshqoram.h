@@ -1,7 +1,7 @@
 /*
  * Yeshqoram: GFA text reported on, normalized and spelled, by code that is proved.
  *
- * The library is target/staticlib/libexports.a, written by `rt staticlib exports`.
+ * The library is crates/exports/out/libexports.a, written by `rt lib` in crates/exports.
  *
  * Of every call, on every input, this is proved:
  *   - the answer's four fields, and the statistics, are those of the definition (docs/DEFINITIONS.md);

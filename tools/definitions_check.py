@@ -25,26 +25,23 @@ SERVICES = {"report": "report_text", "normalize": "normalize", "spell": "spell_p
 CHUNK = 20
 
 COUNTERS = """
-    input-direct-self-loop-edges output-direct-self-loop-edges
-    input-adjacent-same-node-path-steps output-adjacent-same-node-path-steps
-    input-adjacent-same-step-path-steps output-adjacent-same-step-path-steps
-    normalized-nodes collapsed-runs created-segments added-links removed-self-loop-links
-    paths-changed path-steps-before path-steps-after
+    input_direct_self_loop_edges output_direct_self_loop_edges
+    input_adjacent_same_node_path_steps output_adjacent_same_node_path_steps
+    input_adjacent_same_step_path_steps output_adjacent_same_step_path_steps
+    normalized_nodes collapsed_runs created_segments added_links removed_self_loop_links
+    paths_changed path_steps_before path_steps_after
 """.split()
 
 HEAD = """
-use Prim.Native.Nat.{ℕ}
-use mathlib.Core.Bool.{Bool, true, false, not, _&&_}
-use mathlib.Core.List.{List, [], _∷_}
-use mathlib.Core.Option.{Option, none, some}
-use lib.Dec.{T, eqb}
+use Rattle.std.specs.Prelude.{ℕ, Bool, true, false, not, ◌&&◌, List, [], ◌∷◌, T, eqb}
+use Rattle.std.proofs.Math.Option.{Option, none, some}
 USES
 
 counters : Stats → List ℕ
 counters s = COUNTERS
 
 refuses : ℕ → ℕ → ℕ → ℕ → Refusal → Bool
-refuses n l f k r = eqb n (r .number) && eqb l (r .line) && eqb f (r .from) && eqb k (r .length)
+refuses n l f k r = eqb n r.number && eqb l r.line && eqb f r.from && eqb k r.length
 
 normal-is : List ℕ → List ℕ → Normal → Bool
 normal-is out st (Normal.refusal r) = false
@@ -75,8 +72,8 @@ OWN = ["counters", "refuses", "normal-is", "normal-refuses", "answer-is", "answe
 
 
 def head():
-    uses = "\n".join(f"use Rattle·{crate}.specs.{module}.{{{names}}}" for (crate, module), names in USES.items())
-    return HEAD.replace("USES", uses).replace("COUNTERS", numbers("s ." + name for name in COUNTERS))
+    uses = "\n".join(f"use Rattle.{crate}.specs.{module}.{{{names}}}" for (crate, module), names in USES.items())
+    return HEAD.replace("USES", uses).replace("COUNTERS", numbers("s." + name for name in COUNTERS))
 
 
 def numbers(values):

@@ -26,16 +26,13 @@ USES = {
 SEED, REAL, MUTATED, ENOUGH, LONGEST, CHUNK, SHOWN = 7, 300, 150, 50, 90, 50, 20
 
 HEAD = """
-use Prim.Native.Nat.{ℕ}
+use Rattle.std.specs.Prelude.{ℕ, Bool, true, false, not, ◌&&◌, List, [], ◌∷◌, ◌++◌, map, T, eqb}
 use Prim.Native.String.{String}
-use mathlib.Core.Bool.{Bool, true, false, not, _&&_}
-use mathlib.Core.List.{List, [], _∷_, _++_, map}
-use mathlib.Core.Option.{Option, none, some, Option-elim}
-use lib.Dec.{T, eqb}
+use Rattle.std.proofs.Math.Option.{Option, none, some, Option-elim}
 USES
 
 visit_texts : Visit → List (List ℕ)
-visit_texts v = v .name ∷ (v .orientation ∷ []) ∷ []
+visit_texts v = v.name ∷ (v.orientation ∷ []) ∷ []
 
 record_texts : Option Record → List (List ℕ)
 record_texts none = []
@@ -242,7 +239,7 @@ def claim(line):
 
 def main():
     chosen = lines()
-    uses = "\n".join(f"use Rattle·{crate}.specs.{module}.{{{names}}}" for (crate, module), names in USES.items())
+    uses = "\n".join(f"use Rattle.{crate}.specs.{module}.{{{names}}}" for (crate, module), names in USES.items())
     wrong = prover.differing(HEAD.replace("USES", uses), list(USES), OWN, [claim(line) for line in chosen], CHUNK)
     for number in wrong[:SHOWN]:
         print(f"differs: {claim(chosen[number])}")

@@ -1,5 +1,5 @@
 #!/usr/bin/env python3
-"""Runs the two programs on inputs beside their stored ones, and compares what they print. Both must be built: rt check gfa_report gfa_normalize."""
+"""Runs the two programs on inputs beside their stored ones, and compares what they print. Both must be built: rt run in the folder of each."""
 import subprocess
 import sys
 
@@ -54,7 +54,7 @@ CASES = [
 
 differ = 0
 for program, what, given, wanted in CASES:
-    found = subprocess.run([f"target/bin/{program}"], input=given, capture_output=True, check=False)
+    found = subprocess.run([f"crates/{program}/out/{program}"], input=given, capture_output=True, check=False)
     if found.returncode != 0 or found.stdout != wanted:
         differ += 1
         print(f"{program}, {what}: status {found.returncode}, printed {found.stdout[:200]!r}, not {wanted[:200]!r}")

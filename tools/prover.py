@@ -71,9 +71,10 @@ def definitions(modules):
             continue
         reached.add((crate, module))
         source = open(os.path.join(ROOT, "crates", crate, "specs", *module.split(".")) + ".antt").read()
-        waiting += re.findall(r"^use Rattle·(\w+?)(?:·specs)?\.specs\.(\w+(?:\.\w+)*)", source, re.M)
+        found = re.findall(r"^use Rattle\.(\w+)\.specs\.(\w+(?:\.\w+)*)", source, re.M)
+        waiting += [(crate, module) for crate, module in found if crate in listed()]
         alias = f"{crate}-{module}".replace(".", "-")
-        uses.append(f"use Rattle·{crate}.specs.{module} as {alias}")
+        uses.append(f"use Rattle.{crate}.specs.{module} as {alias}")
         names += [f"{alias}.{name}" for name in re.findall(r"^unfoldable pub (\S+) :", source, re.M)]
     return reached, uses, names
 
@@ -115,10 +116,10 @@ def check(source, reached):
         crates = {crate: line for crate, line in listed().items() if any(crate == c for c, _ in reached)}
         for crate in crates:
             modules(folder, crate, {module for c, module in reached if c == crate})
-        library(folder, "claims", {"Claims": source}, "pub fn zero() -> usize {\n    0\n}\n")
+        library(folder, "claims", {"Claims": source}, "// Claims alone.\n#![tactic(auto)]\n\npub fn zero() -> usize {\n    0\n}\n")
         write(f"{folder}/crates.txt", "\n".join([*crates.values(), f"claims: {' '.join(crates)}"]) + "\n")
         run = subprocess.run(
-            ["rt", "dev", "claims"], cwd=folder, stdout=subprocess.PIPE, stderr=subprocess.STDOUT, text=True
+            ["rt", "check"], cwd=f"{folder}/crates/claims", stdout=subprocess.PIPE, stderr=subprocess.STDOUT, text=True
         )
     except FileNotFoundError as error:
         sys.exit(f"the prover did not run: {error}")
@@ -130,7 +131,7 @@ def check(source, reached):
 
 def listed():
     """the lines of crates.txt, by crate"""
-    lines = [line.split("#")[0].strip() for line in open(os.path.join(ROOT, "crates.txt"))]
+    lines = [line.split("#")[0].replace(" staticlib", "").strip() for line in open(os.path.join(ROOT, "crates.txt"))]
     return {line.partition(":")[0]: line for line in lines if line}
 
 
@@ -138,7 +139,7 @@ def modules(folder, crate, names):
     """a crate of these modules of its specs/ alone"""
     specs = os.path.join(ROOT, "crates", crate, "specs")
     order = re.findall(r"^pub mod (\S+)", open(f"{specs}/Lib.antt").read(), re.M)
-    library(folder, crate, {name: open(f"{specs}/{name}.antt").read() for name in order if name in names}, "// Definitions alone.\n")
+    library(folder, crate, {name: open(f"{specs}/{name}.antt").read() for name in order if name in names}, "// Definitions alone.\n#![tactic(auto)]\n")
 
 
 def library(folder, crate, specs, code):

@@ -1,11 +1,11 @@
-//! Links the proved library. `rt staticlib exports` writes it; a relative
+//! Links the proved library. `rt lib` in crates/exports writes it; a relative
 //! folder is taken from this crate's.
 
 use std::path::PathBuf;
 use std::{env, process};
 
 const FOLDER: &str = "YESHQORAM_LIBRARY";
-const DEFAULT: &str = "../../target/staticlib";
+const DEFAULT: &str = "../../crates/exports/out";
 const ARCHIVE: &str = "libexports.a";
 
 fn main() {
@@ -24,6 +24,6 @@ fn main() {
 }
 
 fn fail(archive: &str) -> ! {
-    eprintln!("yeshqoram: there is no {archive}: `rt staticlib exports` writes it, or set {FOLDER} to its folder");
+    eprintln!("yeshqoram: there is no {archive}: `rt lib` in crates/exports writes it, or set {FOLDER} to its folder");
     process::exit(1);
 }

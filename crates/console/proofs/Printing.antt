@@ -6,7 +6,7 @@ use mathlib.Core.Path.{◌≡◌, refl, sym, ap, ◌∙◌}
 use lib.ListN.{length, take, drop, length-take, length-append}
 use lib.Seq.{sets-eq, take_all, take-append_seam}
 use borrow.Author.Tests.{lt-ltb, le-ltb}
-use Rattle.gfa_spec.specs.Calls.{Refusal, plainly, Outcome, refusal, answer}
+use Rattle.gfa_spec.specs.Calls.{Refusal, plainly, Outcome, answer}
 use Rattle.writers.specs.Writers.{Wrote}
 use Rattle.writers.proofs.Writing.{keeps}
 use Rattle.reader.specs.declared.answers.Answer.{Answer}

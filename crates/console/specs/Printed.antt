@@ -2,7 +2,7 @@
 use Rattle.std.specs.Prelude.{ℕ, ◌≤◌, cond, List, ◌∷◌, ◌++◌, ◌≡◌, ltb, length, take}
 use Rattle.gfa_spec.specs.Bytes.{bytes, end_line}
 use Rattle.gfa_spec.specs.Decimal.{decimal}
-use Rattle.gfa_spec.specs.Calls.{plainly, Outcome, refusal, answer}
+use Rattle.gfa_spec.specs.Calls.{plainly, Outcome, answer}
 use Rattle.writers.specs.Writers.{Wrote}
 use Rattle.reader.specs.declared.answers.Answer.{Answer}
 

@@ -8,7 +8,7 @@ use borrow.Author.Tests.{not-true, eqb-true}
 use Rattle.gfa_spec.specs.Bytes.{bytes, star, is_empty, all, Part, bytes_of, split, last_byte, prepend, between, same}
 use Rattle.gfa_spec.specs.Reading.{Step, Read, accepted, then, is_step, step_of, parse_items, parse_psteps, is_mark, orientation_of, walk, non_empty, parse_wsteps}
 use Rattle.gfa_spec.specs.Reading as reading
-use Rattle.gfa_spec.specs.Gfa1.{in_class, matches, is_name, is_sign, ends_item, is_orientation, items, is_item, are_items, starts_step, walk_steps, is_walk_step, is_walk, Visit, item_visit, walk_visit, lacks_comma}
+use Rattle.gfa_spec.specs.Gfa1.{in_class, matches, is_name, is_sign, ends_item, items, is_item, are_items, starts_step, walk_steps, is_walk_step, is_walk, Visit, item_visit, walk_visit, lacks_comma}
 use Rattle.gfa_spec.specs.Gfa1Read.{visit_of}
 use Rattle.gfa_spec.proofs.Tests.{by_test, both, same_equal, all_cons, cons_all}
 use Rattle.gfa_spec.proofs.Each.{each_map, each_of_map, each_implies, all_each}

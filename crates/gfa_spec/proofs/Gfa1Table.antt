@@ -6,7 +6,7 @@ use mathlib.Core.List.{List, [], ◌∷◌, ◌++◌, map}
 use mathlib.Core.Option.{Option, none, some, Option-elim}
 use lib.Dec.{T, eqb}
 use Rattle.gfa_spec.specs.Bytes.{bytes, same, all, join}
-use Rattle.gfa_spec.specs.Reading.{segment, link, path, Read, refused, accepted, walk, parse_line, map_read}
+use Rattle.gfa_spec.specs.Reading.{Read, refused, accepted, parse_line, map_read}
 use Rattle.gfa_spec.specs.Calls.{Outcome, answer}
 use Rattle.gfa_spec.specs.Services.{spell_path}
 use Rattle.gfa_spec.specs.Gfa1.{in_class, matches, is_name, is_sign, ends_item, holds_end, is_segment_name, is_sequence, is_orientation, is_index, is_position, is_cigar, is_overlap, is_character, after_sign, is_integer, are_digits, are_scaled, is_float, is_printed, is_hex, are_numbers, is_array, is_typed, is_tag, are_overlaps, items, is_item, are_items, starts_step, walk_steps, is_walk_step, is_walk, columns, column, sort_of, line_sort, expressions, begins, fits, allows_untagged, allows, allows10, broken_from, first_broken, Visit, Record, item_visit, walk_visit, record_of, states, lacks_comma, no_comma_in, no_comma}

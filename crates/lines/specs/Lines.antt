@@ -6,8 +6,7 @@ use Rattle.tables.specs.declared.tables.Counts.{Counts}
 use Rattle.lines.specs.declared.added.Added.{Added}
 use Rattle.lines.specs.declared.added.Added.TheVariants.{Rows, Refused}
 use Rattle.gfa_spec.specs.Bytes.{part}
-use Rattle.gfa_spec.specs.Reading.{refused, accepted, lines, parse_line}
-use Rattle.gfa_spec.specs.Records.{links, paths}
+use Rattle.gfa_spec.specs.Reading.{refused, accepted, parse_line}
 use Rattle.gfa_spec.specs.Runs.{step_count}
 use Rattle.scan.specs.Places.{part_at}
 use Rattle.work.specs.Rows.{EachRow, Only}

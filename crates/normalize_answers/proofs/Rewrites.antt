@@ -8,7 +8,7 @@ use mathlib.Core.Path.{◌≡◌, refl, sym, ap, ◌∙◌}
 use lib.ListN.{length}
 use Rattle.gfa_spec.specs.Bytes.{count, sum, distinct}
 use Rattle.gfa_spec.specs.Reading.{Entry, Segment}
-use Rattle.gfa_spec.specs.Records.{links, paths, is_self_link}
+use Rattle.gfa_spec.specs.Records.{links, is_self_link}
 use Rattle.gfa_spec.specs.Runs.{pairs}
 use Rattle.normalize_spec.specs.Folding.{is_folded, folded, same_new_node, same_new_step, transform}
 use Rattle.normalize_spec.specs.Links.{is_removed, kept, added}

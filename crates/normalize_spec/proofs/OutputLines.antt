@@ -4,7 +4,7 @@ use mathlib.Core.Bool.{true, false}
 use mathlib.Core.List.{List, [], ◌∷◌, map}
 use mathlib.Core.Path.{◌≡◌, refl, sym, ap, ◌∙◌}
 use Rattle.gfa_spec.specs.Bytes.{bytes, tabbed, one, nil, Each}
-use Rattle.gfa_spec.specs.Reading.{fields, Step, Path, Entry, segment, link, path, id_of, map_read, Kind, P, W, choose}
+use Rattle.gfa_spec.specs.Reading.{Step, Path, Entry, segment, link, path, id_of, map_read, Kind, P, W, choose}
 use Rattle.gfa_spec.proofs.Each.{Lacks, each_implies}
 use Rattle.gfa_spec.proofs.Steps.{by_orientation}
 use Rattle.gfa_spec.proofs.Places.{unplaced, erase_step, erase_path, erase}

@@ -1,5 +1,5 @@
 -- What a call answers, refused or given, and what it leaves behind. Assumes nothing.
-use Prim.Native.Nat.{ℕ, ◌+◌}
+use Prim.Native.Nat.{ℕ}
 use mathlib.Core.List.{List, ◌++◌}
 use mathlib.Core.Path.{◌≡◌, ◌∙◌}
 use lib.ListN.{length, drop, replicate}

@@ -2,11 +2,9 @@
 use Rattle.std.specs.Prelude.{ℕ, ◌+◌, ◌*◌, ◌≤◌, List, ◌≡◌, length}
 use Rattle.tables.specs.declared.tables.Bases.{Bases}
 use Rattle.tables.specs.declared.tables.Counts.{Counts}
-use Rattle.lines.specs.declared.added.Added.TheVariants.{Refused}
 use Rattle.reader.specs.declared.reading.Outcome.{Outcome}
 use Rattle.reader.specs.declared.reading.Outcome.TheVariants as outcome
 use Rattle.gfa_spec.specs.Reading.{lines, refused_at, parsed, parse}
-use Rattle.gfa_spec.specs.Records.{links, paths}
 use Rattle.tables.specs.Entries.{entries_at}
 use Rattle.lines.specs.Room.{segs_in, links_in, paths_in, spare_in, total}
 use Rattle.tables.specs.Tables.{Tables}

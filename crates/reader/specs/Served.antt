@@ -3,7 +3,7 @@ use Rattle.std.specs.Prelude.{ℕ, List, ◌++◌, ◌≡◌, length, drop, repl
 use Rattle.reader.specs.declared.answers.Answer.{Answer}
 use Rattle.reader.specs.declared.input.Input.{Input}
 use Rattle.reader.specs.declared.input.Input.TheVariants as input
-use Rattle.gfa_spec.specs.Calls.{Outcome, refusal, answer}
+use Rattle.gfa_spec.specs.Calls.{Outcome, answer}
 
 -- the four fields of an answer: a refusal's, or number 0 and the bytes written
 unfoldable pub answer_of : Outcome → Answer

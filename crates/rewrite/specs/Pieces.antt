@@ -1,5 +1,5 @@
 -- The pieces of the rewritten text, by the numbers of the rows. Document 01, "Folding", rule 7.
-use Rattle.std.specs.Prelude.{ℕ, ◌+◌, cond, List, [], ◌∷◌, ◌++◌, eqb, length, get_or}
+use Rattle.std.specs.Prelude.{ℕ, ◌+◌, cond, List, [], ◌∷◌, ◌++◌, eqb, get_or}
 use Rattle.gfa_spec.specs.Bytes.{nil, end_line, ended}
 use Rattle.gfa_spec.specs.Reading.{Entry, choose}
 use Rattle.normalize_spec.specs.Folding.{NewStep}

@@ -12,7 +12,7 @@ use Rattle.tables.specs.declared.rows.StepWords.{StepWords}
 use Rattle.runs.specs.declared.counts.Pairs.{Pairs}
 use Rattle.gfa_spec.specs.Bytes.{sum, count}
 use Rattle.gfa_spec.specs.Reading.{Step, Path}
-use Rattle.gfa_spec.specs.Records.{is_self_link, self_links, links, paths}
+use Rattle.gfa_spec.specs.Records.{is_self_link, self_links}
 use Rattle.gfa_spec.specs.Runs.{bit, pairs, same_node, same_step, over_paths, same_node_pairs, same_step_pairs}
 use Rattle.gfa_spec.proofs.Counting.{count_one, count_append}
 use Rattle.gfa_spec.proofs.Runs.{pairs_none, pairs_cons}

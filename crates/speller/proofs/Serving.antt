@@ -12,7 +12,6 @@ use Rattle.reader.specs.declared.input.Input.{Input}
 use Rattle.reader.specs.declared.input.Input.TheVariants as input
 use Rattle.spelling.specs.declared.spelling.Spelt as code
 use Rattle.spelling.specs.declared.spelling.Spelt.TheVariants.{Bytes, Bad}
-use Rattle.gfa_spec.specs.Records.{paths}
 use Rattle.gfa_spec.specs.Sequences.{complement}
 use Rattle.gfa_spec.specs.Spelling.{Spelt, spell}
 use Rattle.gfa_spec.specs.Calls.{plainly, Outcome}

@@ -2,7 +2,6 @@
 -- Document 01, "Forms that change".
 use Rattle.std.specs.Prelude.{ℕ, ◌+◌, ◌≤◌, ◌*◌, List, [], ◌∷◌, ◌≡◌, length}
 use Rattle.tables.specs.declared.tables.Counts.{Counts}
-use Rattle.gfa_spec.specs.Reading.{lines}
 use Rattle.tables.specs.declared.tables.Bases.{Bases}
 use Rattle.gfa_spec.specs.Records.{segments, links, paths}
 use Rattle.gfa_spec.specs.Runs.{step_count}

@@ -61,6 +61,7 @@ longest_there (x ∷ xs) h =
     last : (t : Bool) → (t || true) ≡ true
     last true = refl
     last false = refl
+
     later : (m : ℕ) → m ≡ longest xs → any (λ r. eqb r.count (longest xs)) xs ≡ true → (eqb x.count m || any (λ r. eqb r.count m) xs) ≡ true
     later m e w = rw (e, w) (last (eqb x.count (longest xs)))
 

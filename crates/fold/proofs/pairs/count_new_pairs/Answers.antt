@@ -1,4 +1,3 @@
-use Prim.Native.Nat.{◌-◌}
 use Rattle.fold.proofs.Pairing.{pairing_start, pairing_more, pairing_end}
 use Rattle.fold.proofs.pairs.count_new_pairs.Goals as goal
 

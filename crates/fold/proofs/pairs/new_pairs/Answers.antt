@@ -1,4 +1,3 @@
-use Prim.Native.Nat.{◌-◌}
 use Rattle.fold.proofs.Pairing.{summing_start, summing_more, summing_end}
 use Rattle.fold.proofs.pairs.new_pairs.Goals as goal
 

@@ -1,4 +1,3 @@
-use Prim.Native.Nat.{◌-◌}
 use borrow.Author.Rules.{rules}
 use Rattle.fold.proofs.Passing.{passing_ready, passing_more}
 use Rattle.fold.proofs.Transforming.{cleared_readable, passing_start, transform_is}

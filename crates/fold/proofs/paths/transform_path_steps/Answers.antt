@@ -1,4 +1,3 @@
-use Prim.Native.Nat.{◌-◌}
 use borrow.Author.Rules.{rules}
 use Rattle.fold.proofs.Running.{running_start, running_known, running_room, running_more, running_end}
 use Rattle.fold.proofs.paths.transform_path_steps.Goals as goal

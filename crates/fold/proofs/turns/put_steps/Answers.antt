@@ -1,4 +1,3 @@
-use Prim.Native.Nat.{◌-◌}
 use Rattle.fold.proofs.Putting.{putting_start, putting_more, putting_end}
 use Rattle.fold.proofs.turns.put_steps.Goals as goal
 

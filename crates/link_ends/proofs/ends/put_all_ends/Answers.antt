@@ -1,4 +1,3 @@
-use Prim.Native.Nat.{◌-◌}
 use Rattle.link_ends.proofs.Endings.{ending_start, ending_more, ending_end}
 use Rattle.link_ends.proofs.ends.put_all_ends.Goals as goal
 

@@ -1,4 +1,3 @@
-use Prim.Native.Nat.{◌-◌}
 use Rattle.new_ids.proofs.Kin.{comparing_start, comparing_hit, comparing_more, comparing_end}
 use Rattle.new_ids.proofs.candidates.is_taken.Goals as goal
 

@@ -1,4 +1,3 @@
-use Prim.Native.Nat.{◌-◌}
 use native.Mathlib.Omega.{arith}
 use Rattle.new_ids.proofs.Finding.{seeking_start, seeking_hit, seeking_more, seeking_end}
 use Rattle.new_ids.proofs.ids.find_new.Goals as goal

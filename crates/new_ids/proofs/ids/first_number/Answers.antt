@@ -1,4 +1,4 @@
-use Prim.Native.Nat.{◌-◌, ◌≤◌}
+use Prim.Native.Nat.{◌≤◌}
 use native.Mathlib.Omega.{arith}
 use Rattle.new_ids.proofs.Largest.{growing_start, growing_stop, growing_more, growing_last, growing_end}
 use Rattle.new_ids.proofs.ids.first_number.Goals as goal

@@ -1,4 +1,3 @@
-use Prim.Native.Nat.{◌-◌}
 use native.Mathlib.Omega.{arith}
 use Rattle.new_ids.proofs.Kin.{tried_more, tried_end}
 use Rattle.new_ids.proofs.ids.free_suffix.Goals as goal

@@ -1,4 +1,3 @@
-use Prim.Native.Nat.{◌-◌}
 use Rattle.new_names.proofs.Likeness.{plain_start, plain_no, plain_more}
 use Rattle.scan.proofs.SameNames.{back_yes}
 use Rattle.new_names.proofs.sanitized.is_plain.Goals as goal

@@ -1,4 +1,3 @@
-use Prim.Native.Nat.{◌-◌}
 use Rattle.node_lines.proofs.Grouping.{number_room, grouping_start, grouping_stop, grouping_more, grouping_end}
 use Rattle.node_lines.proofs.buckets.group_at.Goals as goal
 

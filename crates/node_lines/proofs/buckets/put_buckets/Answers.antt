@@ -1,4 +1,3 @@
-use Prim.Native.Nat.{◌-◌}
 use Rattle.node_lines.proofs.Grouping.{bucketing_start, bucketing_more, bucketing_end}
 use Rattle.node_lines.proofs.buckets.put_buckets.Goals as goal
 

@@ -1,4 +1,3 @@
-use Prim.Native.Nat.{◌-◌}
 use borrow.Author.Rules.{rules}
 use Rattle.node_lines.proofs.Listing.{listed_row, listing_start, listing_more, listing_end}
 use Rattle.node_lines.proofs.output.put_nodes.Goals as goal

@@ -1,4 +1,3 @@
-use Prim.Native.Nat.{◌-◌}
 use Rattle.nodes.proofs.Finding.{search_start, search_inside, search_hit, search_more, search_end}
 use Rattle.nodes.proofs.nodes.find_row.Goals as goal
 

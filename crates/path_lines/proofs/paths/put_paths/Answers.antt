@@ -1,4 +1,3 @@
-use Prim.Native.Nat.{◌-◌}
 use Rattle.writers.proofs.Rowing.{rowing_start, rowing_more, rowing_end}
 use Rattle.path_lines.proofs.paths.put_paths.Goals as goal
 

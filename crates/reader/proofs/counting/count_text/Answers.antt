@@ -1,4 +1,3 @@
-use Prim.Native.Nat.{◌-◌}
 use native.Mathlib.Omega.{arith}
 use Rattle.reader.proofs.Tallying.{counting_start, counting_few, counting_more, counting_end}
 use Rattle.reader.proofs.counting.count_text.Goals as goal

@@ -1,4 +1,3 @@
-use Prim.Native.Nat.{◌-◌}
 use Rattle.reader.proofs.BadBytes.{searching_start, searching_high, searching_last, searching_bare, searching_feed, searching_more, searching_end}
 use Rattle.reader.proofs.input.bad_byte.Goals as goal
 

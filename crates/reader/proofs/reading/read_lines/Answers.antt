@@ -1,4 +1,3 @@
-use Prim.Native.Nat.{◌-◌}
 use Rattle.reader.proofs.Progress.{progress_start, progress_ready, progress_refused, progress_more, progress_end}
 use Rattle.reader.proofs.reading.read_lines.Goals as goal
 

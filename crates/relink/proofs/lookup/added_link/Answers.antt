@@ -1,4 +1,3 @@
-use Prim.Native.Nat.{◌-◌}
 use borrow.Author.Rules.{rules}
 use Rattle.relink.proofs.Lookups.{comparing_start, added_step, comparing_more, comparing_hit, comparing_end}
 use Rattle.relink.proofs.lookup.added_link.Goals as goal

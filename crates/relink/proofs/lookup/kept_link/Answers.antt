@@ -1,4 +1,3 @@
-use Prim.Native.Nat.{◌-◌}
 use Rattle.relink.proofs.Lookups.{seeking_start, seeking_more, seeking_hit, seeking_end}
 use Rattle.relink.proofs.lookup.kept_link.Goals as goal
 

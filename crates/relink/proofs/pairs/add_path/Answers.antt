@@ -1,4 +1,3 @@
-use Prim.Native.Nat.{◌-◌}
 use Rattle.relink.proofs.Adding.{pairing_start, pairing_more, pairing_end}
 use Rattle.relink.proofs.pairs.add_path.Goals as goal
 

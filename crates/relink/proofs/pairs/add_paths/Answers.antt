@@ -1,4 +1,3 @@
-use Prim.Native.Nat.{◌-◌}
 use borrow.Author.Rules.{rules}
 use Rattle.relink.proofs.Adding.{passing_start, passing_room, passing_more, passing_end}
 use Rattle.relink.proofs.pairs.add_paths.Goals as goal

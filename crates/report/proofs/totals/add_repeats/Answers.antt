@@ -1,4 +1,3 @@
-use Prim.Native.Nat.{◌-◌}
 use Rattle.report.proofs.Repeating.{repeating_start, repeating_more, repeating_end}
 use Rattle.report.proofs.totals.add_repeats.Goals as goal
 

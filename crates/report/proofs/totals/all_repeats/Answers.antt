@@ -1,4 +1,3 @@
-use Prim.Native.Nat.{◌-◌}
 use Rattle.report.proofs.Repeating.{totalling_start, totalling_more, totalling_end}
 use Rattle.report.proofs.totals.all_repeats.Goals as goal
 

@@ -1,4 +1,3 @@
-use Prim.Native.Nat.{◌-◌}
 use Rattle.writers.proofs.Rowing.{rowing_start, rowing_more, rowing_end}
 use Rattle.rewrite.proofs.lines.put_raw.Goals as goal
 

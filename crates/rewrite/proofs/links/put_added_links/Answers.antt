@@ -1,4 +1,3 @@
-use Prim.Native.Nat.{◌-◌}
 use borrow.Author.Rules.{rules}
 use Rattle.rewrite.proofs.NewLines.{added_step, added_written}
 use Rattle.writers.proofs.Rowing.{rowing_start, rowing_more, rowing_end}

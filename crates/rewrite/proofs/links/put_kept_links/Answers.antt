@@ -1,4 +1,3 @@
-use Prim.Native.Nat.{◌-◌}
 use Rattle.writers.proofs.Rowing.{rowing_start, rowing_more, rowing_end}
 use Rattle.rewrite.proofs.links.put_kept_links.Goals as goal
 

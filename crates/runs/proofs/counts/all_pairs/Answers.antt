@@ -1,4 +1,3 @@
-use Prim.Native.Nat.{◌-◌}
 use native.Mathlib.Omega.{arith}
 use Rattle.runs.proofs.Totals.{summed_start, summed_more, summed_end}
 use Rattle.runs.proofs.counts.all_pairs.Goals as goal

@@ -1,4 +1,3 @@
-use Prim.Native.Nat.{◌-◌}
 use native.Mathlib.Omega.{arith}
 use Rattle.runs.proofs.Totals.{pairing_start, pairing_more, pairing_end}
 use Rattle.runs.proofs.counts.count_pairs.Goals as goal

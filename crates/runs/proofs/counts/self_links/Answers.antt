@@ -1,4 +1,3 @@
-use Prim.Native.Nat.{◌-◌}
 use native.Mathlib.Omega.{arith}
 use Rattle.runs.proofs.Totals.{tallied_start, tallied_more, tallied_end}
 use Rattle.runs.proofs.counts.self_links.Goals as goal

@@ -1,4 +1,3 @@
-use Prim.Native.Nat.{◌-◌}
 use borrow.Author.Tests.{not-true, not-false}
 use Rattle.runs.proofs.RunEnds.{equal_start, equal_differs, equal_more, equal_end}
 use Rattle.runs.proofs.runs.run_from.Goals as goal

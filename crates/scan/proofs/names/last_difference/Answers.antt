@@ -1,4 +1,3 @@
-use Prim.Native.Nat.{◌-◌}
 use Rattle.scan.proofs.SameNames.{back_start, back_stop, back_more, back_end}
 use Rattle.scan.proofs.names.last_difference.Goals as goal
 

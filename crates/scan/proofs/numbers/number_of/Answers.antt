@@ -18,6 +18,6 @@ returns c =
     let a = c.args in
     let head = part_head a.from a.n a.text.now in
     c.value_of-2.ensures ∙ ap number_answer (elim c.if-n-gt0.branch [
-      then-n-gt0+else-text-from-eq43 w ↦ rw (head (omega arith) (omega (arith, w.if-n-gt0.true))) (sym (number_plain _ _ w.if-text-from-eq43.false))
-    | else-n-gt0 w ↦ let z : a.n ≡ 0 = omega (arith, w.if-n-gt0.false) in rw (z, part_none) (sym number_none)
+      | then-n-gt0+else-text-from-eq43 w ↦ rw (head (omega arith) (omega (arith, w.if-n-gt0.true))) (sym (number_plain _ _ w.if-text-from-eq43.false))
+      | else-n-gt0 w ↦ let z : a.n ≡ 0 = omega (arith, w.if-n-gt0.false) in rw (z, part_none) (sym number_none)
     ])

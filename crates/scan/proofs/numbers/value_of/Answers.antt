@@ -1,4 +1,4 @@
-use Prim.Native.Nat.{ℕ, ◌<◌, ◌≤◌, ◌+◌, ◌-◌}
+use Prim.Native.Nat.{ℕ, ◌<◌, ◌≤◌, ◌+◌}
 use native.Mathlib.Omega.{arith}
 use mathlib.Core.Path.{◌≡◌, sym, ap, ◌∙◌}
 use mathlib.Core.List.{List, ◌∷◌}
@@ -43,12 +43,11 @@ pub returns-then-d-v : goal.returns-then-d-v
 returns-then-d-v c = nothing _ _ _ (next _ _ _ _ _ c.requires c.loop-i-test.true c.loop-i.invariant.2) (scan_large _ _ _ (omega arith))
 
 pub loop-i-preserved : goal.loop-i-preserved
-loop-i-preserved c =
-    (
-      omega arith,
-      omega arith,
-      rw c.worth-d.ensures (next _ _ _ _ _ c.requires c.loop-i-test.true c.loop-i.invariant.2 ∙ scan_digit _ _ _ (omega arith) (omega arith) (omega arith)),
-    )
+loop-i-preserved c = (
+  omega arith,
+  omega arith,
+  rw c.worth-d.ensures (next _ _ _ _ _ c.requires c.loop-i-test.true c.loop-i.invariant.2 ∙ scan_digit _ _ _ (omega arith) (omega arith) (omega arith)),
+)
 
 pub returns : goal.returns
 unfolding number_answer scan

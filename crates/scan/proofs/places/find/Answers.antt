@@ -1,4 +1,3 @@
-use Prim.Native.Nat.{◌-◌}
 use Rattle.scan.proofs.Finding.{finding_start, finding_hit, finding_more, finding_end}
 use Rattle.scan.proofs.places.find.Goals as goal
 

@@ -1,4 +1,3 @@
-use Prim.Native.Nat.{◌-◌}
 use Rattle.spelling.proofs.Spelled.{seeking_start, seeking_more, seeking_bad, seeking_end}
 use Rattle.spelling.proofs.spelling.bad_step.Goals as goal
 

@@ -1,4 +1,3 @@
-use Prim.Native.Nat.{◌-◌}
 use Rattle.spelling.proofs.Spelled.{so_far_start, so_far_more, so_far_bad, so_far_end}
 use Rattle.spelling.proofs.spelling.put_spelling.Goals as goal
 

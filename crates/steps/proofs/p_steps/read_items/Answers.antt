@@ -1,4 +1,3 @@
-use Prim.Native.Nat.{◌-◌}
 use Rattle.steps.proofs.Stepping.{stepping_start, stepping_end, stepping_bad, stepping_more}
 use Rattle.steps.proofs.p_steps.read_items.Goals as goal
 

@@ -1,4 +1,3 @@
-use Prim.Native.Nat.{◌-◌}
 use Rattle.steps.proofs.Walking.{marking_start, marking_hit, marking_more, marking_end}
 use Rattle.steps.proofs.walks.find_mark.Goals as goal
 

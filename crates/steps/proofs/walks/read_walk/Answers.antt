@@ -1,4 +1,3 @@
-use Prim.Native.Nat.{◌-◌}
 use native.Mathlib.Omega.{arith}
 use Rattle.steps.proofs.Walking.{walking_none, walking_start, walking_last, walking_empty, walking_more, walking_end, mark_small}
 use Rattle.steps.proofs.walks.read_walk.Goals as goal

@@ -1,4 +1,3 @@
-use Prim.Native.Nat.{◌-◌}
 use native.Mathlib.Omega.{arith}
 use Rattle.tables.proofs.Numbers.{search_start, search_hit, search_more, search_end}
 use Rattle.tables.proofs.segments.find_segment.Goals as goal

@@ -23,7 +23,6 @@ count_link-requires c =
     let pre = c.requires in
     let tables-end = c.tables_end-table in
     let find-row = c.find_row in
-    
     row_small pre tables-end.ensures find-row.ensures c.in-At.is
 
 pub returns : goal.returns

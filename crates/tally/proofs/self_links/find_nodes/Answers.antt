@@ -1,4 +1,3 @@
-use Prim.Native.Nat.{◌-◌}
 use Rattle.tally.proofs.Linking.{linking_start, linking_ready, linking_more, linking_end}
 use Rattle.tally.proofs.self_links.find_nodes.Goals as goal
 

@@ -1,4 +1,3 @@
-use Prim.Native.Nat.{◌-◌}
 use Rattle.tally.proofs.Passing.{running_start, running_more, running_end}
 use Rattle.tally.proofs.visits.count_path.Goals as goal
 

@@ -1,4 +1,3 @@
-use Prim.Native.Nat.{◌-◌}
 use borrow.Author.Rules.{rules}
 use Rattle.tally.proofs.Passing.{passing_start, passing_fits, passing_more, passing_end}
 use Rattle.tally.proofs.visits.count_paths.Goals as goal

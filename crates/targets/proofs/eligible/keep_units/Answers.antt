@@ -1,4 +1,3 @@
-use Prim.Native.Nat.{◌-◌}
 use Rattle.targets.proofs.EligibleMarks.{leaving_start, leaving_more, leaving_end}
 use Rattle.targets.proofs.eligible.keep_units.Goals as goal
 

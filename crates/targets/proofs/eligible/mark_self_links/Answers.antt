@@ -1,4 +1,3 @@
-use Prim.Native.Nat.{◌-◌}
 use Rattle.targets.proofs.EligibleMarks.{linking_start, linking_more, linking_end}
 use Rattle.targets.proofs.eligible.mark_self_links.Goals as goal
 

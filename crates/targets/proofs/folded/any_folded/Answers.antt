@@ -1,4 +1,3 @@
-use Prim.Native.Nat.{◌-◌}
 use Rattle.targets.proofs.Adding.{eligible_marks}
 use Rattle.targets.proofs.Looking.{looking_start, walking_start, walking_end, walking_more, looked_none, looked_hit}
 use Rattle.targets.proofs.folded.any_folded.Goals as goal

@@ -1,4 +1,3 @@
-use Prim.Native.Nat.{◌-◌}
 use Rattle.targets.proofs.FoldedMarks.{keeping_start, keeping_more, keeping_end}
 use Rattle.targets.proofs.folded.keep_eligible.Goals as goal
 

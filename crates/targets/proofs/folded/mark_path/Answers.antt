@@ -1,4 +1,3 @@
-use Prim.Native.Nat.{◌-◌}
 use Rattle.targets.proofs.FoldedMarks.{marking_start, marking_more, marking_end}
 use Rattle.targets.proofs.folded.mark_path.Goals as goal
 

@@ -1,4 +1,3 @@
-use Prim.Native.Nat.{◌-◌}
 use Rattle.targets.proofs.FoldedMarks.{visiting_start, visiting_more, visiting_end}
 use Rattle.targets.proofs.folded.mark_paths.Goals as goal
 

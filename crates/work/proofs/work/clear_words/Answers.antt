@@ -1,4 +1,3 @@
-use Prim.Native.Nat.{◌-◌}
 use mathlib.Core.Path.{refl}
 use Rattle.work.proofs.Filling.{filling_start, filling_more, filling_end}
 use Rattle.work.proofs.work.clear_words.Goals as goal

@@ -1,4 +1,3 @@
-use Prim.Native.Nat.{◌-◌}
 use native.Mathlib.Omega.{arith}
 use Rattle.work.proofs.Stores.{storing_start, storing_more, storing_end, storing_word}
 use Rattle.work.proofs.work.put_row.Goals as goal

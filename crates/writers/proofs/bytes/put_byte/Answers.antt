@@ -9,6 +9,6 @@ pub returns : goal.returns
 returns c =
     let a = c.args in
     elim c.if-at-least.branch [
-      then-at-least w ↦ turned _ (a.b ∷ []) _ 1 _ (omega (arith, w.if-at-least.true)) w.out-is (omega arith)
-    | else-at-least w ↦ turned _ (a.b ∷ []) _ 0 _ (omega (arith, w.if-at-least.false)) w.out-is (omega arith)
+      | then-at-least w ↦ turned _ (a.b ∷ []) _ 1 _ (omega (arith, w.if-at-least.true)) w.out-is (omega arith)
+      | else-at-least w ↦ turned _ (a.b ∷ []) _ 0 _ (omega (arith, w.if-at-least.false)) w.out-is (omega arith)
     ]
