@@ -10,6 +10,7 @@ use reader::answers::plain;
 use report::services::diagnose_gfa;
 
 // Puts what is to be printed at the front of `out`, and answers how many bytes that is.
+#[tactic(auto, using(console::proofs::Printing::prints_long))]
 fn print_report(text: &[u8], out: &mut [u8], work: &mut [u32]) -> usize
     ensures { Prints out.new result (limited text.now (report_text text.now 10 (length out.old) (length work.old))) }
 {

@@ -18,6 +18,7 @@ pub fn same_node(text: &[u8], a: StepWords, c: StepWords) -> bool
 }
 
 // Are they equal? Name and orientation both count.
+#[tactic(auto, using(crate::proofs::RunEnds::turned, crate::proofs::RunEnds::turned_alike))]
 pub fn same_step(text: &[u8], a: StepWords, c: StepWords) -> bool
     requires { Inside text.now a.name × Inside text.now c.name }
     ensures { result ≡ same_step (step_of text.now a) (step_of text.now c) }

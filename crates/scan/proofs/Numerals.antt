@@ -1,18 +1,19 @@
 -- Laws of numbers that are read: digit by digit, and one leading +. Assumes nothing.
 use Prim.Native.Nat.{ℕ, ◌+◌, ◌-◌, ◌*◌, ◌≤◌, ◌<◌}
 use native.Mathlib.Omega.{arith}
-use mathlib.Core.Path.{◌≡◌, refl, sym}
+use mathlib.Core.Path.{◌≡◌, refl, sym, ap, ◌∙◌}
 use mathlib.Core.List.{List, [], ◌∷◌}
 use mathlib.Core.Logic.{◌⊎◌, inl, inr}
 use mathlib.Core.Bool.{Bool, true, false, cond, ◌&&◌, and-false}
 use mathlib.Core.Option.{Option, none, some}
 use lib.Dec.{leb}
-use lib.ListN.{length}
+use lib.ListN.{length, drop, get_or}
 use borrow.Author.Tests.{le-leb, lt-leb, ne_eqb}
-use Rattle.gfa_spec.specs.Bytes.{all, is_empty}
+use Rattle.gfa_spec.specs.Bytes.{all, is_empty, part}
 use Rattle.gfa_spec.specs.Decimal.{is_digit, value_from, largest64, is_numeral, unsigned, number_of}
-use Rattle.scan.specs.Numbers.{numeral}
-use Rattle.gfa_spec.proofs.Parts.{by_order}
+use Rattle.scan.specs.declared.numbers.Number.TheVariants.{None}
+use Rattle.scan.specs.Numbers.{numeral, number_answer}
+use Rattle.gfa_spec.proofs.Parts.{by_order, part_drop}
 
 -- ---- digits
 
@@ -66,6 +67,27 @@ scan_large v b bs h = rw (lt-leb (v * 10 + (b - 48)) 18446744073709551615 h, and
 pub scan_digit : (v b : ℕ) (bs : List ℕ) → 48 ≤ b → b ≤ 57 → v * 10 + (b - 48) ≤ 18446744073709551615 → scan v (b ∷ bs) ≡ scan (v * 10 + (b - 48)) bs
 unfolding scan is_digit largest64
 scan_digit v b bs l h k = rw (le-leb 48 b l, le-leb b 57 h, le-leb (v * 10 + (b - 48)) 18446744073709551615 k)
+
+-- ---- digits of a part of a text
+
+-- what the whole part reads as, the next byte in sight
+pub next_digit : (text : List ℕ) (from n v i : ℕ) → from + n ≤ length text → i < n → numeral (part from n text) ≡ scan v (drop i (part from n text))
+    → numeral (part from n text) ≡ scan v (get_or text (from + i) 0 ∷ drop (i + 1) (part from n text))
+next_digit text from n v i inside below e = e ∙ ap (λ (r : List ℕ). scan v r) (part_drop from n i text (omega arith) (omega arith))
+
+-- what reads as nothing is answered so
+pub nothing_read : (t r : List ℕ) (v : ℕ) → numeral t ≡ scan v r → scan v r ≡ none → None ≡ number_answer (numeral t)
+unfolding number_answer
+nothing_read t r v here e = ap number_answer (sym (here ∙ e))
+
+-- a byte below the digits, and one above them
+pub none_below : (text : List ℕ) (from n v i : ℕ) → from + n ≤ length text → i < n → numeral (part from n text) ≡ scan v (drop i (part from n text))
+    → get_or text (from + i) 0 < 48 → None ≡ number_answer (numeral (part from n text))
+none_below text from n v i inside below e h = nothing_read _ _ _ (next_digit text from n v i inside below e) (scan_other _ _ _ (inl h))
+
+pub none_above : (text : List ℕ) (from n v i : ℕ) → from + n ≤ length text → i < n → numeral (part from n text) ≡ scan v (drop i (part from n text))
+    → 57 < get_or text (from + i) 0 → None ≡ number_answer (numeral (part from n text))
+none_above text from n v i inside below e h = nothing_read _ _ _ (next_digit text from n v i inside below e) (scan_other _ _ _ (inr h))
 
 -- ---- one leading +
 

@@ -20,6 +20,7 @@ fn worth(b: u8) -> u64
 }
 
 // The value of `n` bytes that are all digits and at least one, if it is within 64 bits.
+#[tactic(auto, using(crate::proofs::Numerals::none_below, crate::proofs::Numerals::none_above))]
 fn value_of(text: &[u8], from: usize, n: usize) -> Number
     requires { from + n ≤ length text.now }
     ensures { result ≡ number_answer (numeral (part from n text.now)) }

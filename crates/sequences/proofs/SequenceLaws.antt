@@ -65,6 +65,10 @@ pub preview_short : (seq : List ℕ) → length seq ≤ 48 → sequence_preview 
 unfolding sequence_preview
 preview_short seq h = rw (le-leb (length seq) 48 h)
 
+-- so is a short part of a text
+pub preview_part : (from n : ℕ) (text : List ℕ) → from + n ≤ length text → n ≤ 48 → sequence_preview (part from n text) ≡ part from n text
+preview_part from n text inside short = let long = length_part from n text inside in preview_short (part from n text) (omega arith)
+
 -- a longer one by its front
 pub preview_long : (seq : List ℕ) → 48 < length seq → sequence_preview seq ≡ take 48 seq ++ bytes "..."
 unfolding sequence_preview

@@ -7,6 +7,7 @@ ghost use Rattle.writers.specs.Writers.{Wrote};
 use writers::bytes::{put_bytes, put_constant};
 
 // A sequence that is a part of the text, as the report shows it: its first 48 bytes, and `...` if it is longer.
+#[tactic(auto, using(crate::proofs::SequenceLaws::preview_part))]
 pub fn put_preview(
     out: &mut [u8],
     at: usize,

@@ -3,16 +3,10 @@ use native.Mathlib.Omega.{arith}
 use mathlib.Core.List.{◌++◌}
 use mathlib.Core.Path.{sym, ap, ◌∙◌}
 use Rattle.gfa_spec.proofs.Parts.{length_part, part_front}
-use Rattle.sequences.proofs.SequenceLaws.{preview_short, preview_long}
+use Rattle.sequences.proofs.SequenceLaws.{preview_long}
 use Rattle.writers.proofs.Writing.{being, ◌▷◌}
 use Rattle.gfa_spec.specs.Bytes.{bytes}
 use Rattle.sequences.proofs.preview.put_preview.Goals as goal
-
-pub returns-then-n-le48 : goal.returns-then-n-le48
-returns-then-n-le48 c =
-    let a = c.args in
-    let long = length_part a.from a.n a.text.now (omega arith) in
-    being (sym (preview_short _ (omega arith))) c.put_bytes.ensures
 
 pub returns : goal.returns
 unfolding bytes
