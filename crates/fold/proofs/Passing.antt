@@ -10,7 +10,7 @@ use lib.ListN.{length}
 use borrow.Author.Tests.{lt-ltb, ltb-true, ltb-false}
 use Rattle.gfa_spec.specs.Bytes.{any, count as count_of, sum}
 use Rattle.gfa_spec.specs.Reading.{Segment}
-use Rattle.gfa_spec.specs.Runs.{runs as runsOf, bit}
+use Rattle.gfa_spec.specs.Runs.{runs as runs_of, bit}
 use Rattle.gfa_spec.proofs.Tests.{by_test}
 use Rattle.normalize_spec.specs.Folding.{AllTransformed, is_folded_run, transform_paths, none_made}
 use Rattle.normalize_spec.proofs.Onward.{before_paths, paths_more}
@@ -119,7 +119,7 @@ module _ {text w v u : List ℕ} {b : Bases} {n : Counts} {g : Layout} {m t x : 
         turned = λ ss fs f. rw (path_steps e) (q.turned ss fs f ∙ stands ss);
         runs = λ ss fs f. rw (path_steps e) (q.runs ss fs f);
         changed = λ ss fs f.
-            let added = any_added (is_folded_run fs) (runsOf (steps_from text w b r.first r.end)) m.runs in
+            let added = any_added (is_folded_run fs) (runs_of (steps_from text w b r.first r.end)) m.runs in
             rw (path_steps e, added, q.runs ss fs f);
         few = omega (arith, bit_most (ltb m.runs t.runs));
       })
@@ -175,8 +175,8 @@ pub record Passing (text first work : List ℕ) (b : Bases) (n : Counts) (g : La
   pub left : (ss fs : List Segment) → Folds ss fs text first b n g
       → transform_paths ss fs (paths_to text first b n.paths) (none_made ss)
       ≡ gone_on_paths ss fs text first work b n g m p
-  pub runs : (ss fs : List Segment) → Folds ss fs text first b n g → Summed (λ st. count_of (is_folded_run fs) (runsOf st)) text first b n p m.runs
-  pub changed : (ss fs : List Segment) → Folds ss fs text first b n g → Summed (λ st. bit (any (is_folded_run fs) (runsOf st))) text first b n p m.changed
+  pub runs : (ss fs : List Segment) → Folds ss fs text first b n g → Summed (λ st. count_of (is_folded_run fs) (runs_of st)) text first b n p m.runs
+  pub changed : (ss fs : List Segment) → Folds ss fs text first b n g → Summed (λ st. bit (any (is_folded_run fs) (runs_of st))) text first b n p m.changed
 
 module _ {text first : List ℕ} {b : Bases} {n : Counts} {g : Layout} {work : List ℕ} {m : Made} {p : ℕ} (s : Passing text first work b n g m p) where
   next_summed : p < n.paths → Summed length text first b n (p + 1) (s.done + length (path_no text first b p).steps)

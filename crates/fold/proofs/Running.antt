@@ -6,7 +6,7 @@ use mathlib.Core.List.{List, ◌∷◌}
 use mathlib.Core.Path.{◌≡◌, refl, sym, ◌∙◌}
 use Rattle.gfa_spec.specs.Bytes.{count as count_of}
 use Rattle.gfa_spec.specs.Reading.{Segment}
-use Rattle.gfa_spec.specs.Runs.{runs as runsOf, bit}
+use Rattle.gfa_spec.specs.Runs.{runs as runs_of, bit}
 use Rattle.normalize_spec.specs.Folding.{Transformed, is_folded_run, transform_runs}
 use Rattle.normalize_spec.proofs.Onward.{before, runs_start, runs_more, runs_end}
 use Rattle.tables.specs.declared.tables.Bases.{Bases}
@@ -51,7 +51,7 @@ grown_none p s =
 abbrev pub gone_on : List Segment → List Segment → List ℕ → List ℕ → List ℕ → Bases → Counts → Layout → Made → Made → ℕ → ℕ → Transformed
 gone_on ss fs text old work b n g m made i end =
     before (new_steps_from (names_at text work b n g made.first made.segs) work g m.steps made.steps)
-    (transform_runs ss fs (runsOf (steps_from text old b i end)) (made_at ss text work b g made.first made.segs))
+    (transform_runs ss fs (runs_of (steps_from text old b i end)) (made_at ss text work b g made.first made.segs))
 
 -- The state at step i: the runs before it are turned; `old` are the words before the first.
 pub record Running (text old work : List ℕ) (b : Bases) (n : Counts) (g : Layout) (m made : Made) (first end i : ℕ) : Type 0 where
@@ -64,10 +64,10 @@ pub record Running (text old work : List ℕ) (b : Bases) (n : Counts) (g : Layo
   pub grown : Grown text old work b n g n.paths m made (i - first)
   pub changed : made.changed ≡ m.changed
   pub left : (ss fs : List Segment) → Folds ss fs text old b n g
-      → transform_runs ss fs (runsOf (steps_from text old b first end)) (made_at ss text old b g m.first m.segs)
+      → transform_runs ss fs (runs_of (steps_from text old b first end)) (made_at ss text old b g m.first m.segs)
       ≡ gone_on ss fs text old work b n g m made i end
   pub runs : (ss fs : List Segment) → Folds ss fs text old b n g
-      → m.runs + count_of (is_folded_run fs) (runsOf (steps_from text old b first end)) ≡ made.runs + count_of (is_folded_run fs) (runsOf (steps_from text old b i end))
+      → m.runs + count_of (is_folded_run fs) (runs_of (steps_from text old b first end)) ≡ made.runs + count_of (is_folded_run fs) (runs_of (steps_from text old b i end))
 
 module _ {text old : List ℕ} {b : Bases} {n : Counts} {g : Layout} {m : Made} {first end : ℕ} where
   pub running_start : Stage text old b n g m × Room n m (end - first) → (first ≤ end) × (end ≤ n.steps) × KnownSteps text old b n first end → Running text old old b n g m m first end first
@@ -84,7 +84,7 @@ module _ {text old : List ℕ} {b : Bases} {n : Counts} {g : Layout} {m : Made} 
         changed = refl;
         left = λ ss fs f.
             rw (new_steps_none (names_at text old b n g m.first m.segs) old g m.steps m.steps (omega arith))
-            (runs_start ss fs (runsOf (steps_from text old b first end)) (made_at ss text old b g m.first m.segs));
+            (runs_start ss fs (runs_of (steps_from text old b first end)) (made_at ss text old b g m.first m.segs));
         runs = λ ss fs f. refl;
       }
 
@@ -106,7 +106,7 @@ module _ {text old : List ℕ} {b : Bases} {n : Counts} {g : Layout} {m : Made} 
           }
 
       -- the run, of the first words
-      run_first : runsOf (steps_from text old b i end) ≡ record { step = step_no text work b i; count = r - i } ∷ runsOf (steps_from text old b r end)
+      run_first : runs_of (steps_from text old b i end) ≡ record { step = step_no text work b i; count = r - i } ∷ runs_of (steps_from text old b r end)
       run_first =
           let t = s.stage.making.source.readable in
           rw (← steps_stand t tables i end s.high s.inside, ← steps_stand t tables r end q.high s.inside) q.first
@@ -131,11 +131,11 @@ module _ {text old : List ℕ} {b : Bases} {n : Counts} {g : Layout} {m : Made} 
               rw (run_first, runs_more, t.turned ss fs f, steps_more m.steps s.grown.stage t.grown s.grown.low.1) (unfold stands_at in refl)
 
           runs : (ss fs : List Segment) → Folds ss fs text work b n g
-              → made.runs + count_of (is_folded_run fs) (runsOf (steps_from text old b i end)) ≡ k.runs + count_of (is_folded_run fs) (runsOf (steps_from text old b r end))
+              → made.runs + count_of (is_folded_run fs) (runs_of (steps_from text old b i end)) ≡ k.runs + count_of (is_folded_run fs) (runs_of (steps_from text old b r end))
           runs ss fs f = rw (run_first, count_cons, t.runs ss fs f) (omega arith)
 
     pub running_end : end ≤ i → StepsTurned text old work b n g m first end made
-    unfolding runsOf
+    unfolding runs_of
     running_end h =
         let e : i ≡ end = omega (arith, s.high) in
         record {

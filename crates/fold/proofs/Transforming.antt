@@ -11,7 +11,7 @@ use lib.ListN.{get_or}
 use Rattle.gfa_spec.specs.Bytes.{any, keep, sum, count as count_of}
 use Rattle.gfa_spec.specs.Reading.{Segment}
 use Rattle.gfa_spec.specs.Records.{segment_number}
-use Rattle.gfa_spec.specs.Runs.{Run, runs as runsOf, is_repeat, bit}
+use Rattle.gfa_spec.specs.Runs.{Run, runs as runs_of, is_repeat, bit}
 use Rattle.gfa_spec.proofs.Counting.{bit_set}
 use Rattle.normalize_spec.specs.Folding.{AllTransformed, is_folded_run, transform_paths, none_made}
 use Rattle.normalize_spec.specs.Counting.{folded_runs}
@@ -148,7 +148,7 @@ module _ {text first work : List ℕ} {b : Bases} {n : Counts} {g : Layout} {m :
         paths = rw (st.of_segments, st.of_paths) (sym (ap (λ (t : AllTransformed). t.paths) (transformed ss fs f)));
         steps = rw last at s.steps;
         runs = rw st.of_paths (summed_end (s.runs ss fs f) h ∙ (unfold over_rows folded_runs in refl));
-        changed = rw st.of_paths (summed_end (s.changed ss fs f) h ∙ (unfold over_rows in sym (count_bits (λ q. any (is_folded_run fs) (runsOf q.steps)) (paths_to text first b n.paths))));
+        changed = rw st.of_paths (summed_end (s.changed ss fs f) h ∙ (unfold over_rows in sym (count_bits (λ q. any (is_folded_run fs) (runs_of q.steps)) (paths_to text first b n.paths))));
       }
 
   -- the whole

@@ -4,7 +4,7 @@ use Rattle.std.proofs.Math.Option.{some}
 use Rattle.gfa_spec.specs.Bytes.{any, nth, count as count_of}
 use Rattle.gfa_spec.specs.Reading.{Segment}
 use Rattle.gfa_spec.specs.Records.{segment_number}
-use Rattle.gfa_spec.specs.Runs.{Run, runs as runsOf, is_repeat, bit}
+use Rattle.gfa_spec.specs.Runs.{Run, runs as runs_of, is_repeat, bit}
 use Rattle.normalize_spec.specs.Folding.{Transformed, is_folded_run, onto, fold_run, keep_run, turn, transform_runs}
 use Rattle.work.specs.Rows.{Only}
 use Rattle.tables.specs.declared.tables.Bases.{Bases}
@@ -145,8 +145,8 @@ pub record StepsTurned (text before work : List ℕ) (b : Bases) (n : Counts) (g
   pub grown : Grown text before work b n g n.paths m r (end - first)
   pub changed : r.changed ≡ m.changed
   pub turned : (ss fs : List Segment) → Folds ss fs text before b n g
-      → transform_runs ss fs (runsOf (steps_from text before b first end)) (made_at ss text before b g m.first m.segs) ≡ stands_at ss text work b n g r m.steps
-  pub runs : (ss fs : List Segment) → Folds ss fs text before b n g → r.runs ≡ m.runs + count_of (is_folded_run fs) (runsOf (steps_from text before b first end))
+      → transform_runs ss fs (runs_of (steps_from text before b first end)) (made_at ss text before b g m.first m.segs) ≡ stands_at ss text work b n g r m.steps
+  pub runs : (ss fs : List Segment) → Folds ss fs text before b n g → r.runs ≡ m.runs + count_of (is_folded_run fs) (runs_of (steps_from text before b first end))
 
 -- ---- a path
 
@@ -160,7 +160,7 @@ pub record NextIs (text before work : List ℕ) (b : Bases) (n : Counts) (g : La
   pub first_step : (path_words work g p).first ≡ m.steps
   pub last_step : (path_words work g p).end ≡ r.steps
   pub turned : (ss fs : List Segment) → Folds ss fs text before b n g
-      → transform_runs ss fs (runsOf (path_no text before b p).steps) (made_at ss text before b g m.first m.segs) ≡ stands_at ss text work b n g r m.steps
-  pub runs : (ss fs : List Segment) → Folds ss fs text before b n g → r.runs ≡ m.runs + count_of (is_folded_run fs) (runsOf (path_no text before b p).steps)
-  pub changed : (ss fs : List Segment) → Folds ss fs text before b n g → r.changed ≡ m.changed + bit (any (is_folded_run fs) (runsOf (path_no text before b p).steps))
+      → transform_runs ss fs (runs_of (path_no text before b p).steps) (made_at ss text before b g m.first m.segs) ≡ stands_at ss text work b n g r m.steps
+  pub runs : (ss fs : List Segment) → Folds ss fs text before b n g → r.runs ≡ m.runs + count_of (is_folded_run fs) (runs_of (path_no text before b p).steps)
+  pub changed : (ss fs : List Segment) → Folds ss fs text before b n g → r.changed ≡ m.changed + bit (any (is_folded_run fs) (runs_of (path_no text before b p).steps))
   pub few : r.changed ≤ m.changed + 1

@@ -11,7 +11,7 @@ use Rattle.gfa_spec.specs.Bytes.{same, star, is_empty, any, Part, bytes_of, long
 use Rattle.gfa_spec.specs.Reading.{fields, nowhere, field, Step, Entry, Read, refused, accepted, then, is_orientation, is_step, parse_items, parse_psteps, is_mark, walk, non_empty, parse_wsteps, parse_orientation, parse_s, parse_l, parse_p, parse_w, parse_fields, starts_comment, parse_line}
 use Rattle.gfa_spec.specs.Conditions.{is_single, is_none, is_malformed, has_empty_step, LineRefuses, short_s, id_read, short_l, from_empty, from_other, to_empty, to_other, short_p, step_malformed, short_w, step_empty, no_step, last_empty}
 use Rattle.gfa_spec.proofs.Tests.{by_test, or_left, or_right, same_equal}
-use Rattle.gfa_spec.proofs.Answers.{not-accepted}
+use Rattle.gfa_spec.proofs.Answers.{not_accepted}
 use Rattle.gfa_spec.proofs.Splitting.{split_between}
 use Rattle.gfa_spec.proofs.Steps.{walk_ind}
 use Rattle.gfa_spec.proofs.Entries.{orientation_accepted}
@@ -31,7 +31,7 @@ unfolding parse_orientation is_empty is_single
 orientation_refused C n m [] f g e = let same : n ≡ m = cc in rw same at (f refl)
 orientation_refused C n m (b ∷ []) f g e =
     by_test (is_orientation b)
-    (λ h. absurd (not-accepted (sym (rw h at e))))
+    (λ h. absurd (not_accepted (sym (rw h at e))))
     (λ h. let same : suc n ≡ m = cc (rw h at e) in rw same at (g refl h))
 orientation_refused C n m (b ∷ (c ∷ s)) f g e = let same : suc n ≡ m = cc in rw same at (g refl refl)
 
@@ -64,12 +64,12 @@ accepted_single n s a e = let o = orientation_accepted n s a e in rw o.0 o.1
 -- items are refused as 13, and only if one of them is malformed
 items_refused : (items : List Part) (n : ℕ) → parse_items items ≡ refused n → (13 ≡ n) × (any is_malformed (map bytes_of items) ≡ true)
 unfolding parse_items any is_malformed bytes_of
-items_refused [] n e = absurd (not-accepted (sym e))
+items_refused [] n e = absurd (not_accepted (sym e))
 items_refused (item ∷ items) n e =
     by_test (is_empty item.bytes)
     (λ h. rw h (items_refused items n (rw h at e)))
     (λ h. by_test (is_step item.bytes)
-    (λ k. rw (h, k) (then_refused (parse_items items) _ n (items_refused items n) (λ a i j. absurd (not-accepted (sym j))) (rw (h, k) at e)))
+    (λ k. rw (h, k) (then_refused (parse_items items) _ n (items_refused items n) (λ a i j. absurd (not_accepted (sym j))) (rw (h, k) at e)))
     (λ k. rw (h, k) (cc (rw (h, k) at e), refl)))
 
 -- and if one is malformed they are
@@ -94,7 +94,7 @@ psteps_refused : (f : Part) (n : ℕ) → parse_psteps f ≡ refused n → (13 �
 unfolding parse_psteps is_none
 psteps_refused f n e =
     by_test (same f.bytes star)
-    (λ h. absurd (not-accepted (sym (rw h at e))))
+    (λ h. absurd (not_accepted (sym (rw h at e))))
     (λ h. let (number, some) = items_refused (split 44 f.at f.bytes) n (rw h at e) in
     let some = rw split_between at some in
     (number, rw (h, malformed_given f.bytes some), some))
@@ -194,7 +194,7 @@ module _ (ids : List (List ℕ)) (fs : List Part) (n : ℕ) where
 
   -- nothing is both accepted and refused
   never : {A : Type 0} {a : A} → accepted a ≡ refused n → LineRefuses ids fs n
-  never e = absurd (not-accepted (sym e))
+  never e = absurd (not_accepted (sym e))
 
   -- an S line
   s_refused : (p : Part) → field 0 fs ≡ 83 ∷ [] → parse_s ids p fs ≡ refused n → LineRefuses ids fs n
@@ -313,15 +313,15 @@ one_condition ids fs m n h k = cc (refused_fields ids nowhere fs m h, refused_fi
 -- a line whose fields are refused is neither blank nor a comment: its first field is a letter
 refused_lettered : (ids : List (List ℕ)) (p : Part) (n at : ℕ) (s : List ℕ) → parse_fields ids p (split 9 at s) ≡ refused n → (is_empty s ≡ false) × (starts_comment s ≡ false)
 unfolding parse_fields field nth nowhere same longer split is_empty starts_comment
-refused_lettered ids p n at [] e = absurd (not-accepted (sym e))
+refused_lettered ids p n at [] e = absurd (not_accepted (sym e))
 refused_lettered ids p n at (b ∷ s) e =
     by_test (eqb b 35)
     (λ h. let hash = eqb-true b 35 h in absurd (go (split 9 (suc at) s) (rw hash at e)))
     (λ h. (refl, h))
   where
     go : (ps : List Part) → parse_fields ids p (longer at 35 ps) ≡ refused n → ⊥
-    go [] e = not-accepted (sym e)
-    go (q ∷ qs) e = not-accepted (sym e)
+    go [] e = not_accepted (sym e)
+    go (q ∷ qs) e = not_accepted (sym e)
 
 -- under the condition of a number the line is refused as that number
 pub refused_line : (ids : List (List ℕ)) (p : Part) (n : ℕ) → LineRefuses ids (fields p) n → parse_line ids p ≡ refused n

@@ -11,7 +11,7 @@ use Rattle.gfa_spec.specs.Bytes.{same, star, is_empty, any, Part, bytes_of, nth,
 use Rattle.gfa_spec.specs.Reading.{fields, nowhere, field, Step, P, W, Path, Entry, header, comment, blank, other, segment, link, path, Read, refused, accepted, then, is_orientation, parse_psteps, parse_wsteps, parse_orientation, parse_s, parse_l, parse_p, parse_w, parse_fields, starts_comment, parse_line, id_of, choose}
 use Rattle.gfa_spec.proofs.Tests.{same_equal}
 use Rattle.gfa_spec.proofs.Each.{each_append, each_map, nth_each}
-use Rattle.gfa_spec.proofs.Answers.{not-accepted}
+use Rattle.gfa_spec.proofs.Answers.{not_accepted}
 use Rattle.gfa_spec.proofs.Steps.{psteps_bytes, wsteps_bytes}
 
 -- ---- what an accepted line holds
@@ -39,19 +39,19 @@ either false x y f g e = g refl e
 -- an accepted continuation had an accepted start
 then_accepted : {A B : Type 0} (r : Read A) (k : A → Read B) (b : B) → then r k ≡ accepted b → (a : A) × (r ≡ accepted a) × (k a ≡ accepted b)
 unfolding then
-then_accepted (refused n) k b e = absurd (not-accepted e)
+then_accepted (refused n) k b e = absurd (not_accepted e)
 then_accepted (accepted a) k b e = (a, refl, e)
 
 -- an orientation is a single + or -
 pub orientation_accepted : (n : ℕ) (s : List ℕ) (a : ℕ) → parse_orientation n s ≡ accepted a → (s ≡ a ∷ []) × (is_orientation a ≡ true)
 unfolding parse_orientation
-orientation_accepted n [] a e = absurd (not-accepted e)
+orientation_accepted n [] a e = absurd (not_accepted e)
 orientation_accepted n (b ∷ []) a e = go (is_orientation b) refl e
   where
     go : (t : Bool) → is_orientation b ≡ t → cond t (accepted b) (refused (suc n)) ≡ accepted a → (b ∷ [] ≡ a ∷ []) × (is_orientation a ≡ true)
     go true h e = let same : b ≡ a = cc in (cc, rw same at h)
-    go false h e = absurd (not-accepted e)
-orientation_accepted n (b ∷ (c ∷ s)) a e = absurd (not-accepted e)
+    go false h e = absurd (not_accepted e)
+orientation_accepted n (b ∷ (c ∷ s)) a e = absurd (not_accepted e)
 
 module _ (ids : List (List ℕ)) (p : Part) (fs : List Part) (e : Entry) where
   -- an accepted entry is the one given
@@ -62,15 +62,15 @@ module _ (ids : List (List ℕ)) (p : Part) (fs : List Part) (e : Entry) where
   s_holds : parse_s ids p fs ≡ accepted e → Holds ids p fs e
   unfolding parse_s
   s_holds =
-      either (ltb (length fs) 3) _ _ (λ short a. absurd (not-accepted a))
-      (λ long. either (any (same (field 1 fs)) ids) _ _ (λ taken a. absurd (not-accepted a))
+      either (ltb (length fs) 3) _ _ (λ short a. absurd (not_accepted a))
+      (λ long. either (any (same (field 1 fs)) ids) _ _ (λ taken a. absurd (not_accepted a))
       (λ fresh. given (is_segment (ltb-false (length fs) 3 long) fresh)))
 
   -- an accepted L line
   l_holds : parse_l p fs ≡ accepted e → Holds ids p fs e
   unfolding parse_l
   l_holds =
-      either (ltb (length fs) 6) _ _ (λ short a. absurd (not-accepted a))
+      either (ltb (length fs) 6) _ _ (λ short a. absurd (not_accepted a))
       (λ long h.
       let a = then_accepted (parse_orientation 8 (field 2 fs)) _ e h in
       let b = then_accepted (parse_orientation 10 (field 4 fs)) _ e a.2 in
@@ -82,7 +82,7 @@ module _ (ids : List (List ℕ)) (p : Part) (fs : List Part) (e : Entry) where
   p_holds : field 0 fs ≡ 80 ∷ [] → parse_p fs ≡ accepted e → Holds ids p fs e
   unfolding parse_p
   p_holds letter =
-      either (ltb (length fs) 3) _ _ (λ short a. absurd (not-accepted a))
+      either (ltb (length fs) 3) _ _ (λ short a. absurd (not_accepted a))
       (λ long h.
       let a = then_accepted (parse_psteps (nth 2 fs nowhere)) _ e h in
       given (is_p a.0 letter (ltb-false (length fs) 3 long) a.1) a.2)
@@ -91,7 +91,7 @@ module _ (ids : List (List ℕ)) (p : Part) (fs : List Part) (e : Entry) where
   w_holds : field 0 fs ≡ 87 ∷ [] → parse_w fs ≡ accepted e → Holds ids p fs e
   unfolding parse_w
   w_holds letter =
-      either (ltb (length fs) 7) _ _ (λ short a. absurd (not-accepted a))
+      either (ltb (length fs) 7) _ _ (λ short a. absurd (not_accepted a))
       (λ long h.
       let a = then_accepted (parse_wsteps (nth 6 fs nowhere)) _ e h in
       given (is_w a.0 letter (ltb-false (length fs) 7 long) a.1) a.2)
@@ -203,7 +203,7 @@ module _ (ids too : List (List ℕ)) (p : Part) (e : Entry) (fresh : Fresh too e
   unfolding parse_s id_of choose one nil
   s_again fs =
       lift (ltb (length fs) 3) _ _ _ _ (λ a. a)
-      (either (any (same (field 1 fs)) ids) _ _ (λ taken a. absurd (not-accepted a))
+      (either (any (same (field 1 fs)) ids) _ _ (λ taken a. absurd (not_accepted a))
       (λ old a.
       let it : e ≡ segment (record { id = field 1 fs; sequence = field 2 fs; line = p.bytes }) = cc in
       let new = rw it at fresh in

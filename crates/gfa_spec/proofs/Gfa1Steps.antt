@@ -142,7 +142,7 @@ record Walked (at b : ℕ) (bs : List ℕ) : Type 0 where
   cut : walk_steps (b ∷ bs) ≡ (b ∷ (walk at bs).before) ∷ more
   equal : map visit_of (walk at bs).steps ≡ map walk_visit more
 
--- the clause of `walk_steps_allowed`
+-- the clause of `walk_steps`
 steps_cons : (b : ℕ) (bs : List ℕ) → walk_steps (b ∷ bs) ≡ cond (starts_step bs) ((b ∷ []) ∷ walk_steps bs) (prepend b (walk_steps bs))
 unfolding walk_steps
 steps_cons b bs = refl

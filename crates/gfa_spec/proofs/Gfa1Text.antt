@@ -15,7 +15,7 @@ use Rattle.gfa_spec.proofs.Tests.{by_test, both}
 use Rattle.gfa_spec.proofs.Gfa1.{field_column, fields_columns, none_states, reads}
 use Rattle.gfa_spec.proofs.Texts.{Reads, parse_reads}
 use Rattle.gfa_spec.proofs.Admission.{entries_input}
-use Rattle.gfa_spec.proofs.Answers.{mapRead-accepted}
+use Rattle.gfa_spec.proofs.Answers.{map_read_accepted}
 
 -- a letter of no sort is none of the four
 no_sort : (f : List ℕ) → sort_of f ≡ none → (same f (bytes "S") ≡ false) × (same f (bytes "L") ≡ false) × (same f (bytes "P") ≡ false) × (same f (bytes "W") ≡ false)
@@ -103,7 +103,7 @@ entry_name (path p) = sym (path_name_none p.kind p.fields (map visit_of p.steps)
 pub conforms_entry : (ids : List (List ℕ)) (l : Part) → conforms l.bytes ≡ true → known ids (states l.bytes) ≡ false
     → (e : Entry) × (parse_line ids l ≡ accepted e) × (stated e ≡ states l.bytes)
 unfolding expected
-conforms_entry ids l h k = mapRead-accepted stated (parse_line ids l) (states l.bytes) (rw k at (conforms_reads ids l h))
+conforms_entry ids l h k = map_read_accepted stated (parse_line ids l) (states l.bytes) (rw k at (conforms_reads ids l h))
 
 -- a line and then others are read
 line_parsed : (number : ℕ) (ids : List (List ℕ)) (l : Part) (ls : List Part) (e : Entry) (es : List Entry) → parse_line ids l ≡ accepted e

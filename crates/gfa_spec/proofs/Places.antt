@@ -10,7 +10,7 @@ use Rattle.gfa_spec.specs.Reading.{fields, nowhere, field, Step, Kind, P, W, Pat
 use Rattle.gfa_spec.proofs.Tests.{cond_ap}
 use Rattle.gfa_spec.proofs.Each.{nth_map, Lacks}
 use Rattle.gfa_spec.proofs.Lines.{Unreturned, lines_ended}
-use Rattle.gfa_spec.proofs.Answers.{not-accepted}
+use Rattle.gfa_spec.proofs.Answers.{not_accepted}
 use Rattle.gfa_spec.proofs.Splitting.{split_between}
 
 -- a string as a part at the place 0
@@ -231,8 +231,8 @@ onward_alike : (number : ℕ) (r q : Read Entry) (f g : Entry → Parsed) → ma
     → erase_parsed (onward number r f) ≡ erase_parsed (onward number q g)
 unfolding map_read onward
 onward_alike number (refused n) (refused m) f g e k = let same : n ≡ m = cc in rw same
-onward_alike number (refused n) (accepted b) f g e k = absurd (not-accepted e)
-onward_alike number (accepted a) (refused m) f g e k = absurd (not-accepted (sym e))
+onward_alike number (refused n) (accepted b) f g e k = absurd (not_accepted e)
+onward_alike number (accepted a) (refused m) f g e k = absurd (not_accepted (sym e))
 onward_alike number (accepted a) (accepted b) f g e k =
     let same : erase a ≡ erase b = cc in
     let ids : id_of a ≡ id_of b = sym (id_of_erase a) ∙ rw same (id_of_erase b) in

@@ -9,7 +9,7 @@ use Rattle.gfa_spec.specs.Reading.{fields, Entry, accepted, parse_line, parsed, 
 use Rattle.gfa_spec.specs.Calls.{bad_byte}
 use Rattle.gfa_spec.proofs.Each.{Lacks, each_front, each_map, each_implies, distinct_apart}
 use Rattle.gfa_spec.proofs.Lines.{Unreturned, lacks_unreturned}
-use Rattle.gfa_spec.proofs.Answers.{mapRead-accepted}
+use Rattle.gfa_spec.proofs.Answers.{map_read_accepted}
 use Rattle.gfa_spec.proofs.Places.{unplaced, erase, parse_line_alike, erase_parsed, id_of_erase, after_erase, parse_ended}
 use Rattle.gfa_spec.proofs.Entries.{Holds, is_header, is_comment, is_blank, is_other_line, is_segment, is_link, is_p, is_w, line_holds, Fresh, parse_line_again}
 use Rattle.gfa_spec.proofs.Clean.{LineBytes, no_feed, no_return, ended_good}
@@ -33,7 +33,7 @@ again_first : (number : ℕ) (ids : List (List ℕ)) (e : Entry) (p : Part) (ps 
     → erase_parsed (parse_lines (suc number) (ids ++ id_of e) ps) ≡ parsed es → erase_parsed (parse_lines number ids (p ∷ ps)) ≡ parsed (erase e ∷ es)
 unfolding parse_lines onward
 again_first number ids e p ps es h k =
-    let (d, i, j) = mapRead-accepted erase (parse_line ids p) (erase e) h in
+    let (d, i, j) = map_read_accepted erase (parse_line ids p) (erase e) h in
     let same-ids : id_of d ≡ id_of e = sym (id_of_erase d) ∙ ap id_of j ∙ id_of_erase e in
     rw i (after_erase d (parse_lines (suc number) (ids ++ id_of d) ps) ∙ rw (same-ids, k, j) (unfold after in refl))
 

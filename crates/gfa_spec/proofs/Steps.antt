@@ -9,7 +9,7 @@ use Rattle.gfa_spec.specs.Bytes.{same, star, is_empty, Part, split, last_byte, E
 use Rattle.gfa_spec.specs.Reading.{Step, Read, refused, accepted, then, is_orientation, is_step, step_of, parse_items, parse_psteps, is_mark, orientation_of, Walk, walk, non_empty, parse_wsteps}
 use Rattle.gfa_spec.proofs.Tests.{and_left, and_right, or_left, or_right, by_test}
 use Rattle.gfa_spec.proofs.Each.{Lacks, each_implies, each_always, each_both}
-use Rattle.gfa_spec.proofs.Answers.{not-accepted}
+use Rattle.gfa_spec.proofs.Answers.{not_accepted}
 use Rattle.gfa_spec.proofs.Splitting.{parts_lack, parts_bytes}
 
 -- an orientation is + or -
@@ -47,8 +47,8 @@ module _ (P : Part → Type 0) (Q : Step → Type 0) (good : (item : Part) → P
       → cond skip r (cond here (then r (λ more. accepted (step_of item ∷ more))) (refused 13)) ≡ accepted steps → Each Q steps
   unfolding then
   item_each item r true here steps h e k a = k steps a
-  item_each item r false false steps h e k a = absurd (not-accepted a)
-  item_each item (refused n) false true steps h e k a = absurd (not-accepted a)
+  item_each item r false false steps h e k a = absurd (not_accepted a)
+  item_each item (refused n) false true steps h e k a = absurd (not_accepted a)
   item_each item (accepted more) false true steps h e k a =
       let l : step_of item ∷ more ≡ steps = cc in
       rw (← l) (good item h e, k more refl)
@@ -152,18 +152,18 @@ Named s = is_empty s.name.bytes ≡ false
 -- accepted steps are the walk's, with names that are not empty
 non_empty_named : (ss steps : List Step) → non_empty ss ≡ accepted steps → (ss ≡ steps) × Each Named steps
 unfolding non_empty then
-non_empty_named [] steps a = absurd (not-accepted a)
+non_empty_named [] steps a = absurd (not_accepted a)
 non_empty_named (s ∷ []) steps a = go (is_empty s.name.bytes) refl a
   where
     go : (t : Bool) → is_empty s.name.bytes ≡ t → cond t (refused 17) (accepted (s ∷ [])) ≡ accepted steps → (s ∷ [] ≡ steps) × Each Named steps
-    go true e a = absurd (not-accepted a)
+    go true e a = absurd (not_accepted a)
     go false e a = let l : s ∷ [] ≡ steps = cc in (l, rw (← l) (e, tt))
 non_empty_named (s ∷ (t ∷ ts)) steps a = go (is_empty s.name.bytes) (non_empty (t ∷ ts)) refl (non_empty_named (t ∷ ts)) a
   where
     go : (u : Bool) (r : Read (List Step)) → is_empty s.name.bytes ≡ u → ((more : List Step) → r ≡ accepted more → (t ∷ ts ≡ more) × Each Named more)
         → cond u (refused 15) (then r (λ more. accepted (s ∷ more))) ≡ accepted steps → (s ∷ (t ∷ ts) ≡ steps) × Each Named steps
-    go true r e k a = absurd (not-accepted a)
-    go false (refused n) e k a = absurd (not-accepted a)
+    go true r e k a = absurd (not_accepted a)
+    go false (refused n) e k a = absurd (not_accepted a)
     go false (accepted more) e k a =
         let l : s ∷ more ≡ steps = cc in
         let m : t ∷ ts ≡ more = (k more refl).0 in

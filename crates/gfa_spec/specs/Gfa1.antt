@@ -9,7 +9,7 @@ use Rattle.gfa_spec.specs.Bytes.{bytes, same, star, is_empty, all, nth, last_byt
 
 -- ---- classes of bytes
 
--- is the byte in the class, as in `[A-Za-z=.]`? `a_z` is a range (45 is `-`), any other byte stands for itself
+-- is the byte in the class, as in `[A-Za-z=.]`? `a-z` is a range (45 is `-`), any other byte stands for itself
 unfoldable pub in_class : List ℕ → ℕ → Bool
 in_class [] b = false
 in_class (x ∷ []) b = eqb b x

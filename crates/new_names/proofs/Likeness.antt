@@ -18,7 +18,7 @@ use Rattle.scan.specs.declared.names.Difference.{Difference}
 use Rattle.scan.specs.declared.names.Difference.TheVariants.{At, Nowhere}
 use Rattle.scan.proofs.SameNames.{Backward, back_start, back_more, back_no, difference_inside, difference_behind, difference_none}
 use Rattle.new_names.specs.Likeness.{DifferingIs}
-use Rattle.new_names.proofs.Sanitizing.{length_sanitized, get_d_sanitized, sanitized_twice}
+use Rattle.new_names.proofs.Sanitizing.{length_sanitized, get_or_sanitized, sanitized_twice}
 
 -- ---- the front in which two names differ
 
@@ -59,7 +59,7 @@ module _ {xs ys : List ℕ} where
       go k l h =
           let front = d.equal.bytes k l (omega (arith, front_counted n xs s.high)) in
           let raw = sym (get_or-take n xs k 0 h) ∙ front ∙ get_or-take n ys k 0 h in
-          get_d_sanitized xs k (omega (arith, s.high)) ∙ ap (λ b. cond (is_plain b) b 95) raw ∙ sym (get_d_sanitized ys k (omega (arith, s.high, s.long)))
+          get_or_sanitized xs k (omega (arith, s.high)) ∙ ap (λ b. cond (is_plain b) b 95) raw ∙ sym (get_or_sanitized ys k (omega (arith, s.high, s.long)))
 
   pub alike_start : {r : ℕ} → DifferingIs xs ys (length xs) r → length xs ≡ length ys → Alike xs ys r
   alike_start d h = on (record { long = h; high = omega arith; agree = record { bytes = λ k l m. absurd (omega (arith, length_sanitized xs)) } }) d
@@ -70,10 +70,10 @@ module _ {xs ys : List ℕ} where
   module _ {end a b : ℕ} (s : Alike xs ys end) (h : end ≡ 0 → ⊥)
       (p : a ≡ cond (is_plain (get_or xs (end - 1) 0)) (get_or xs (end - 1) 0) 95) (q : b ≡ cond (is_plain (get_or ys (end - 1) 0)) (get_or ys (end - 1) 0) 95) where
     first_byte : get_or (sanitized xs) (end - 1) 0 ≡ a
-    first_byte = get_d_sanitized xs (end - 1) (omega (arith, s.high)) ∙ sym p
+    first_byte = get_or_sanitized xs (end - 1) (omega (arith, s.high)) ∙ sym p
 
     second_byte : get_or (sanitized ys) (end - 1) 0 ≡ b
-    second_byte = get_d_sanitized ys (end - 1) (omega (arith, s.high, s.long)) ∙ sym q
+    second_byte = get_or_sanitized ys (end - 1) (omega (arith, s.high, s.long)) ∙ sym q
 
     pub alike_no : (a ≡ b → ⊥) → false ≡ same (sanitized xs) (sanitized ys)
     alike_no n = sym (same_differ _ _ (end - 1) (λ e. n (sym first_byte ∙ e ∙ second_byte)))
@@ -89,7 +89,7 @@ plain_start xs = back_start (sym (length_sanitized xs))
 module _ {xs : List ℕ} {k a : ℕ} (s : Backward xs (sanitized xs) k) (h : k < length xs)
     (p : a ≡ cond (is_plain (get_or xs (length xs - 1 - k) 0)) (get_or xs (length xs - 1 - k) 0) 95) where
   plain_byte : get_or (sanitized xs) (length xs - 1 - k) 0 ≡ a
-  plain_byte = get_d_sanitized xs (length xs - 1 - k) (omega arith) ∙ sym p
+  plain_byte = get_or_sanitized xs (length xs - 1 - k) (omega arith) ∙ sym p
 
   pub plain_no : (get_or xs (length xs - 1 - k) 0 ≡ a → ⊥) → false ≡ same xs (sanitized xs)
   plain_no n = back_no s (λ e. n (e ∙ plain_byte))

@@ -15,10 +15,10 @@ use Rattle.gfa_spec.proofs.Tests.{by_test, or_left, or_right}
 use Rattle.normalize_spec.specs.Folding.{is_plain, sanitized}
 
 -- an element of a list to each of which a function was applied
-get_d_each : (f : ℕ → ℕ) (l : List ℕ) (i : ℕ) → i < length l → get_or (map f l) i 0 ≡ f (get_or l i 0)
-get_d_each f [] i h = absurd (omega arith)
-get_d_each f (x ∷ l) zero h = refl
-get_d_each f (x ∷ l) (suc i) h = get_d_each f l i (omega arith)
+get_or_each : (f : ℕ → ℕ) (l : List ℕ) (i : ℕ) → i < length l → get_or (map f l) i 0 ≡ f (get_or l i 0)
+get_or_each f [] i h = absurd (omega arith)
+get_or_each f (x ∷ l) zero h = refl
+get_or_each f (x ∷ l) (suc i) h = get_or_each f l i (omega arith)
 
 -- a sanitized name is as long as the name
 pub length_sanitized : (xs : List ℕ) → length (sanitized xs) ≡ length xs
@@ -29,15 +29,15 @@ pub length_sanitized_part : (from n : ℕ) (text : List ℕ) → from + n ≤ le
 length_sanitized_part from n text h = length_sanitized (part from n text) ∙ length_part from n text h
 
 -- each byte is the name's, or `_`
-pub get_d_sanitized : (xs : List ℕ) (i : ℕ) → i < length xs → get_or (sanitized xs) i 0 ≡ cond (is_plain (get_or xs i 0)) (get_or xs i 0) 95
+pub get_or_sanitized : (xs : List ℕ) (i : ℕ) → i < length xs → get_or (sanitized xs) i 0 ≡ cond (is_plain (get_or xs i 0)) (get_or xs i 0) 95
 unfolding sanitized
-get_d_sanitized xs i h = get_d_each (λ b. cond (is_plain b) b 95) xs i h
+get_or_sanitized xs i h = get_or_each (λ b. cond (is_plain b) b 95) xs i h
 
-pub get_d_sanitized_part : (from n i : ℕ) (text : List ℕ) → from + n ≤ length text → i < n
+pub get_or_sanitized_part : (from n i : ℕ) (text : List ℕ) → from + n ≤ length text → i < n
     → get_or (sanitized (part from n text)) i 0 ≡ cond (is_plain (get_or text (from + i) 0)) (get_or text (from + i) 0) 95
-get_d_sanitized_part from n i text h k =
+get_or_sanitized_part from n i text h k =
     let long = length_part from n text h in
-    get_d_sanitized (part from n text) i (omega arith) ∙ rw (get_or_part from n i text k)
+    get_or_sanitized (part from n text) i (omega arith) ∙ rw (get_or_part from n i text k)
 
 -- a sanitized name stays as it is
 pub sanitized_twice : (xs : List ℕ) → sanitized (sanitized xs) ≡ sanitized xs

@@ -2,7 +2,7 @@
 ghost use Rattle.std.specs.Prelude.{◌≡◌, ◌+◌, ◌≤◌, length};
 ghost use Rattle.gfa_spec.specs.Bytes.{same, part};
 ghost use Rattle.gfa_spec.specs.Decimal.{decimal};
-ghost use Rattle.normalize_spec.specs.NewNames.{suffix as suffixOf, new_name, name_tail};
+ghost use Rattle.normalize_spec.specs.NewNames.{suffix as suffix_of, new_name, name_tail};
 ghost use Rattle.writers.specs.Writers.{Wrote};
 
 use crate::sanitized::{is_sanitized, put_sanitized};
@@ -12,7 +12,7 @@ use writers::numbers::put_decimal;
 
 // Nothing for suffix 0, else `_` and the suffix.
 fn put_suffix(out: &mut [u8], at: usize, limit: usize, suffix: usize) -> usize
-    ensures { Wrote limit out.old at (suffixOf suffix) out.new result }
+    ensures { Wrote limit out.old at (suffix_of suffix) out.new result }
 {
     if suffix == 0 {
         return put_constant(out, at, limit, b"");

@@ -12,7 +12,7 @@ use Rattle.gfa_spec.specs.Reading.{Step}
 use Rattle.gfa_spec.specs.Runs.{Run, runs, extend, is_repeat, pairs, bit, same_step}
 use Rattle.gfa_spec.proofs.Tests.{by_test}
 use Rattle.gfa_spec.proofs.Runs.{same_name, extend_first}
-use Rattle.report_spec.specs.Nodes.{on, longest as longestOf}
+use Rattle.report_spec.specs.Nodes.{on, longest as longest_of}
 use Rattle.nodes.specs.declared.counters.Counter.{Counter}
 use Rattle.nodes.specs.Counters.{is_longer, counted_of, goes_on, finish}
 
@@ -55,8 +55,8 @@ module _ (node : List ℕ) where
     pub adjacent : c'.adjacent ≡ c.adjacent + equal_on rs + turns_on rs
     pub equal : c'.equal ≡ c.equal + equal_on rs
     pub runs : c'.runs ≡ c.runs + length (repeats_on rs)
-    pub longest : c'.longest ≡ max c.longest (longestOf (repeats_on rs))
-    pub first : c'.first ≡ cond (ltb c.longest (longestOf (repeats_on rs))) (path + 1) c.first
+    pub longest : c'.longest ≡ max c.longest (longest_of (repeats_on rs))
+    pub first : c'.first ≡ cond (ltb c.longest (longest_of (repeats_on rs))) (path + 1) c.first
 
   -- what a run on the node adds to what the runs behind it add, and what one elsewhere does
   repeats_here : (r : Run) (rs : List Run) → on node r.step ≡ true → repeats_on (r ∷ rs) ≡ cond (leb 2 r.count) (r ∷ repeats_on rs) (repeats_on rs)
@@ -69,7 +69,7 @@ module _ (node : List ℕ) where
 
   module _ (path : ℕ) (c : Counter) (r : Run) (rs : List Run) {d : Counter} where
     finished_here : on node r.step ≡ true → Finished path (counted_of c r.count path (goes_on node rs)) d rs → Finished path c d (r ∷ rs)
-    unfolding steps_on equal_on turns_on any bit is_longer longestOf
+    unfolding steps_on equal_on turns_on any bit is_longer longest_of
     finished_here e m =
         record {
           visits = rw e (omega (arith, m.visits));
@@ -82,15 +82,15 @@ module _ (node : List ℕ) where
           first = rw (repeats_here r rs e) (m.first ∙ earliest);
         }
       where
-        long : d.longest ≡ max (cond (is_longer c r.count) r.count c.longest) (longestOf (repeats_on rs)) → d.longest ≡ max c.longest (longestOf (cond (leb 2 r.count) (r ∷ repeats_on rs) (repeats_on rs)))
+        long : d.longest ≡ max (cond (is_longer c r.count) r.count c.longest) (longest_of (repeats_on rs)) → d.longest ≡ max c.longest (longest_of (cond (leb 2 r.count) (r ∷ repeats_on rs) (repeats_on rs)))
         long h = by_test (leb 2 r.count) (λ f. by_test (ltb c.longest r.count) (λ g. rw f (omega (arith, rw (f, g) at h, ltb-true c.longest r.count g))) (λ g. rw f (omega (arith, rw (f, g) at h, ltb-false c.longest r.count g)))) (λ f. rw f (rw f at h))
 
-        earliest : cond (ltb (cond (is_longer c r.count) r.count c.longest) (longestOf (repeats_on rs))) (path + 1) (cond (is_longer c r.count) (path + 1) c.first) ≡ cond (ltb c.longest (longestOf (cond (leb 2 r.count) (r ∷ repeats_on rs) (repeats_on rs)))) (path + 1) c.first
+        earliest : cond (ltb (cond (is_longer c r.count) r.count c.longest) (longest_of (repeats_on rs))) (path + 1) (cond (is_longer c r.count) (path + 1) c.first) ≡ cond (ltb c.longest (longest_of (cond (leb 2 r.count) (r ∷ repeats_on rs) (repeats_on rs)))) (path + 1) c.first
         earliest =
             by_test (leb 2 r.count)
             (λ f. by_test (ltb c.longest r.count)
-            (λ g. rw (f, g, lt-ltb c.longest (max r.count (longestOf (repeats_on rs))) (omega (arith, ltb-true c.longest r.count g))) (either (ltb r.count (longestOf (repeats_on rs)))))
-            (λ g. rw (f, g, covered c.longest r.count (longestOf (repeats_on rs)) (ltb-false c.longest r.count g))))
+            (λ g. rw (f, g, lt-ltb c.longest (max r.count (longest_of (repeats_on rs))) (omega (arith, ltb-true c.longest r.count g))) (either (ltb r.count (longest_of (repeats_on rs)))))
+            (λ g. rw (f, g, covered c.longest r.count (longest_of (repeats_on rs)) (ltb-false c.longest r.count g))))
             (λ f. rw f)
 
     finished_elsewhere : on node r.step ≡ false → Finished path c d rs → Finished path c d (r ∷ rs)
@@ -108,7 +108,7 @@ module _ (node : List ℕ) where
         }
 
   finished_none : (path : ℕ) (c : Counter) → Finished path c c []
-  unfolding steps_on equal_on turns_on repeats_on any keep longestOf bit
+  unfolding steps_on equal_on turns_on repeats_on any keep longest_of bit
   finished_none path c =
       record {
         visits = omega arith;

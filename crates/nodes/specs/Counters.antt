@@ -5,7 +5,7 @@ use Rattle.gfa_spec.specs.Bytes.{any, count, join, is_empty}
 use Rattle.gfa_spec.specs.Reading.{Path}
 use Rattle.gfa_spec.specs.Runs.{Run, pairs, bit, same_step}
 use Rattle.gfa_spec.specs.Services.{nth_path}
-use Rattle.report_spec.specs.Nodes.{on, visits as visitsOf, repeats_at, longest as longestOf, path_name, first_with, total}
+use Rattle.report_spec.specs.Nodes.{on, visits as visits_of, repeats_at, longest as longest_of, path_name, first_with, total}
 use Rattle.nodes.specs.declared.counters.Counter.{Counter}
 
 -- no path is counted yet
@@ -61,12 +61,12 @@ named (suc k) ps = Option-elim (nth_path k ps) [] path_name
 
 -- The counters of a node once these paths are counted.
 pub record CounterOf (node : List ℕ) (ps : List Path) (c : Counter) : Type 0 where
-  pub visits : c.visits ≡ total (visitsOf node) ps
+  pub visits : c.visits ≡ total (visits_of node) ps
   pub paths : c.paths ≡ count (λ p. any (on node) p.steps) ps
   pub last : c.last ≤ length ps
   pub adjacent : c.adjacent ≡ total (λ p. pairs (λ s t. on node s && on node t) p.steps) ps
   pub equal : c.equal ≡ total (λ p. pairs (λ s t. on node s && same_step s t) p.steps) ps
   pub runs : c.runs ≡ length (join (map (repeats_at node) ps))
-  pub longest : c.longest ≡ longestOf (join (map (repeats_at node) ps))
-  pub first : named c.first ps ≡ cond (is_empty (join (map (repeats_at node) ps))) [] (first_with (longestOf (join (map (repeats_at node) ps))) node ps)
+  pub longest : c.longest ≡ longest_of (join (map (repeats_at node) ps))
+  pub first : named c.first ps ≡ cond (is_empty (join (map (repeats_at node) ps))) [] (first_with (longest_of (join (map (repeats_at node) ps))) node ps)
   pub known : c.first ≤ length ps

@@ -55,10 +55,10 @@ capped e h = rw e at h
 
 -- Demand 3, looser caps fold at least as much: of two accepted calls on one text, whatever room and whatever work area was lent to each and whatever
 -- these held.
-pub calls_monotone : (text : List ℕ) (c d : ℕ) {out-c out-c' out-d out-d' work-c' work-d' : List ℕ} {size-c size-d : ℕ} {r q : NormalizeSelfLoopsResult} → looser c d ≡ true
+pub calls-monotone : (text : List ℕ) (c d : ℕ) {out-c out-c' out-d out-d' work-c' work-d' : List ℕ} {size-c size-d : ℕ} {r q : NormalizeSelfLoopsResult} → looser c d ≡ true
     → Normalized text c out-c out-c' size-c work-c' r → r.answer.number ≡ 0
     → Normalized text d out-d out-d' size-d work-d' q → q.answer.number ≡ 0
     → LooserFolds text c d (take r.answer.length out-c') (take q.answer.length out-d')
-calls_monotone text c d {out-d = out-d} {size-d = size-d} loose h y k z =
+calls-monotone text c d {out-d = out-d} {size-d = size-d} loose h y k z =
     let there = accepted text d size-d (normalize text d (length out-d) size-d) refl (record { answer = k.answer; stats = k.stats; output = k.output }) z in
     h.folds y d (length out-d) size-d _ _ loose there

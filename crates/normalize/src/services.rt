@@ -2,7 +2,7 @@
 //
 // Where demand 3 stands: `Normalized` (specs/Served) is the contract of both functions. Its part `kept` says of the bytes now at the front of
 // `out`, read again at any length, that every path spells what it spelled (`spells`), has lost exactly the steps of its folded runs (`lost`),
-// and that this is its fall in adjacent equal steps (`fallen`). Looser caps fold at least as much: `calls_monotone` (proofs/Demand) says so
+// and that this is its fall in adjacent equal steps (`fallen`). Looser caps fold at least as much: `calls-monotone` (proofs/Demand) says so
 // of any two calls that meet this contract.
 ghost use Rattle.std.specs.Prelude.{length};
 ghost use Rattle.gfa_spec.specs.Calls.{entries};

@@ -10,7 +10,7 @@ use Rattle.gfa_spec.specs.Bytes.{same, star, is_empty, join, join_with, Part, by
 use Rattle.gfa_spec.specs.Reading.{Step, P, W, Read, refused, accepted, then, is_orientation, is_step, step_of, parse_items, parse_psteps, is_mark, orientation_of, walk, non_empty, parse_wsteps, map_read}
 use Rattle.gfa_spec.proofs.Each.{Lacks, each_append, each_implies, each_both, each_of_map, each_map}
 use Rattle.gfa_spec.proofs.Splitting.{split_join}
-use Rattle.gfa_spec.proofs.Answers.{not-accepted, mapRead-accepted}
+use Rattle.gfa_spec.proofs.Answers.{not_accepted, map_read_accepted}
 use Rattle.gfa_spec.proofs.Steps.{by_orientation, SoundStep, NameLacks, Named, non_empty_kept, psteps_sound, psteps_lack_comma, wsteps_sound, wsteps_lack_marks}
 use Rattle.normalize_spec.specs.Folding.{NewStep, as_new}
 use Rattle.normalize_spec.specs.Writing.{p_token, w_token, step_field}
@@ -84,7 +84,7 @@ step_of_token item s e = rw (e, last_byte_token s.name, drop_last_token s.name)
 then_cons : (t : Step) (r : Read (List Step)) (s : NewStep) (ss : List NewStep) → as_new t ≡ s → map_read (map as_new) r ≡ accepted ss
     → map_read (map as_new) (then r (λ steps. accepted (t ∷ steps))) ≡ accepted (s ∷ ss)
 unfolding map_read then
-then_cons t (refused n) s ss e h = absurd (not-accepted h)
+then_cons t (refused n) s ss e h = absurd (not_accepted h)
 then_cons t (accepted more) s ss e h = cc
 
 -- items that were written are read as their steps
@@ -122,7 +122,7 @@ steps_p f (s ∷ ss) e h =
 -- the same, taken apart
 pub steps_p_read : (f : Part) (steps : List NewStep) → f.bytes ≡ step_field P steps → Each PStep steps
     → (ss : List Step) × (parse_psteps f ≡ accepted ss) × (map as_new ss ≡ steps)
-steps_p_read f steps e h = mapRead-accepted (map as_new) (parse_psteps f) steps (steps_p f steps e h)
+steps_p_read f steps e h = map_read_accepted (map as_new) (parse_psteps f) steps (steps_p f steps e h)
 
 -- steps that were read from a P field can be written in one
 pub psteps_writable : (f : Part) (ss : List Step) → parse_psteps f ≡ accepted ss → Each PStep (map as_new ss)
@@ -207,7 +207,7 @@ steps_w f (s ∷ ss) e h =
 -- the same, taken apart
 pub steps_w_read : (f : Part) (steps : List NewStep) → f.bytes ≡ step_field W steps → Each WStep steps
     → (ss : List Step) × (parse_wsteps f ≡ accepted ss) × (map as_new ss ≡ steps)
-steps_w_read f steps e h = mapRead-accepted (map as_new) (parse_wsteps f) steps (steps_w f steps e h)
+steps_w_read f steps e h = map_read_accepted (map as_new) (parse_wsteps f) steps (steps_w f steps e h)
 
 -- steps that were read from a W field can be written in one
 pub wsteps_writable : (f : Part) (ss : List Step) → parse_wsteps f ≡ accepted ss → Each WStep (map as_new ss)

@@ -2,7 +2,7 @@
 use Rattle.std.specs.Prelude.{ℕ, ◌+◌, ◌*◌, ◌≤◌, ◌<◌, not, List, map, ◌≡◌, length}
 use Rattle.gfa_spec.specs.Bytes.{any, count, keep, join, sum}
 use Rattle.gfa_spec.specs.Reading.{Segment}
-use Rattle.gfa_spec.specs.Runs.{bit, runs as runsOf}
+use Rattle.gfa_spec.specs.Runs.{bit, runs as runs_of}
 use Rattle.normalize_spec.specs.Folding.{is_folded_run, none_made, transform_paths}
 use Rattle.normalize_spec.specs.Links.{is_removed, key_of, adjacent, missing}
 use Rattle.normalize_spec.specs.Counting.{folded_runs}
@@ -31,7 +31,7 @@ pub record Folded (text work : List ℕ) (b : Bases) (n : Counts) (g : Layout) (
       ≡ (transform_paths (segments_of text work b n) fs (paths_to text work b n.paths) (none_made (segments_of text work b n))).paths
   pub steps : m.steps ≡ sum (map length (new_paths_to (names_at text work b n g m.first m.segs) work g n.paths))
   pub runs : m.runs ≡ sum (map (folded_runs fs) (paths_to text work b n.paths))
-  pub changed : m.changed ≡ count (λ p. any (is_folded_run fs) (runsOf p.steps)) (paths_to text work b n.paths)
+  pub changed : m.changed ≡ count (λ p. any (is_folded_run fs) (runs_of p.steps)) (paths_to text work b n.paths)
 
 -- The removed links are marked in the third word of their ends, and the added links stand in their table.
 pub record Relinked (text work : List ℕ) (b : Bases) (n : Counts) (g : Layout) (fs : List Segment) (m : Made) (extra : ℕ) : Type 0 where

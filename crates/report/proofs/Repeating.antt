@@ -6,7 +6,7 @@ use mathlib.Core.Path.{◌≡◌, refl, sym, ap, subst, ◌∙◌}
 use lib.Dec.{leb}
 use lib.ListN.{length, length-append}
 use Rattle.gfa_spec.specs.Bytes.{keep, join}
-use Rattle.gfa_spec.specs.Runs.{Run, is_repeat, runs as runsOf}
+use Rattle.gfa_spec.specs.Runs.{Run, is_repeat, runs as runs_of}
 use Rattle.gfa_spec.proofs.Tests.{by_test}
 use Rattle.tables.specs.declared.tables.Bases.{Bases}
 use Rattle.tables.specs.declared.tables.Counts.{Counts}
@@ -15,7 +15,7 @@ use Rattle.tables.specs.ByNumber.{path_no, step_no, paths_to, steps_from, PathIs
 use Rattle.runs.specs.Runs.{RunFrom}
 use Rattle.tables.specs.Tables.{Readable}
 use Rattle.tables.proofs.ByNumber.{paths_zero, paths_more, steps_none}
-use Rattle.report_spec.specs.Nodes.{repeats, longest as longestOf}
+use Rattle.report_spec.specs.Nodes.{repeats, longest as longest_of}
 use Rattle.report.specs.declared.totals.Repeats.{Repeats}
 use Rattle.report.specs.Totals.{with_run, repeats_with, RepeatsIs, AllRepeats}
 use Rattle.tally.proofs.PathCounting.{joined_last, longest_append}
@@ -28,7 +28,7 @@ same_repeats p q = rw (p, q)
 
 -- one run and the others
 run_more : (t : Repeats) (r : Run) (rs : List Run) → repeats_with t (r ∷ rs) ≡ repeats_with (with_run t r.count) rs
-unfolding keep is_repeat longestOf
+unfolding keep is_repeat longest_of
 run_more t r rs =
     by_test (leb 2 r.count)
     (λ e. rw e (same_repeats (omega arith) (omega arith)))
@@ -46,7 +46,7 @@ pub record Repeating (text work : List ℕ) (b : Bases) (n : Counts) (first end 
   pub last : end ≤ n.steps
   pub small : before.runs + end < 4611686018427387904
   pub few : t.runs ≤ before.runs + (i - first)
-  pub left : repeats_with before (runsOf (steps_from text work b first end)) ≡ repeats_with t (runsOf (steps_from text work b i end))
+  pub left : repeats_with before (runs_of (steps_from text work b first end)) ≡ repeats_with t (runs_of (steps_from text work b i end))
 
 module _ {text work : List ℕ} {b : Bases} {n : Counts} {first end : ℕ} {before : Repeats} where
   pub repeating_start : Readable text work b n → first ≤ end → end ≤ n.steps → before.runs + end < 4611686018427387904 → Repeating text work b n first end before before first
@@ -62,11 +62,11 @@ module _ {text work : List ℕ} {b : Bases} {n : Counts} {first end : ℕ} {befo
           last = s.last;
           small = s.small;
           few = rw e (omega (arith, run_few t (r - i), s.few, s.low, q.low));
-          left = s.left ∙ ap (repeats_with t) q.first ∙ run_more t (record { step = step_no text work b i; count = r - i }) (runsOf (steps_from text work b r end)) ∙ rw e;
+          left = s.left ∙ ap (repeats_with t) q.first ∙ run_more t (record { step = step_no text work b i; count = r - i }) (runs_of (steps_from text work b r end)) ∙ rw e;
         }
 
     pub repeating_end : end ≤ i → RepeatsIs text work b first end before t
-    unfolding runsOf keep longestOf
+    unfolding runs_of keep longest_of
     repeating_end h =
         record {
           is = sym (s.left ∙ rw (steps_none text work b i end h) (same_repeats (omega arith) (omega arith)));
@@ -81,11 +81,11 @@ pub record Totalling (text work : List ℕ) (b : Bases) (n : Counts) (t : Repeat
   pub high : p ≤ n.paths
   pub few : t.runs ≤ p * 2097152
   pub runs : t.runs ≡ length (join (map repeats (paths_to text work b p)))
-  pub longest : t.longest ≡ longestOf (join (map repeats (paths_to text work b p)))
+  pub longest : t.longest ≡ longest_of (join (map repeats (paths_to text work b p)))
 
 module _ {text work : List ℕ} {b : Bases} {n : Counts} where
   pub totalling_start : Readable text work b n → Totalling text work b n (record { runs = 0; longest = 0 }) 0
-  unfolding join longestOf
+  unfolding join longest_of
   totalling_start h = record { readable = h; high = omega arith; few = omega arith; runs = rw (paths_zero text work b); longest = rw (paths_zero text work b) }
 
   module _ {t : Repeats} {p : ℕ} (s : Totalling text work b n t p) where
@@ -93,7 +93,7 @@ module _ {text work : List ℕ} {b : Bases} {n : Counts} where
     totalling_more {r} {u} h is q =
         let ps = paths_to text work b p in
         let pa = path_no text work b p in
-        let here : keep is_repeat (runsOf (steps_from text work b r.first r.end)) ≡ repeats pa = unfold repeats in rw is.path in
+        let here : keep is_repeat (runs_of (steps_from text work b r.first r.end)) ≡ repeats pa = unfold repeats in rw is.path in
         let rs = joined_last repeats ps pa in
         record {
           readable = s.readable;
@@ -108,5 +108,5 @@ module _ {text work : List ℕ} {b : Bases} {n : Counts} where
         let e : p ≡ n.paths = omega (arith, s.high) in
         record {
           runs = subst (λ k. t.runs ≡ length (join (map repeats (paths_to text work b k)))) e s.runs;
-          longest = subst (λ k. t.longest ≡ longestOf (join (map repeats (paths_to text work b k)))) e s.longest;
+          longest = subst (λ k. t.longest ≡ longest_of (join (map repeats (paths_to text work b k)))) e s.longest;
         }

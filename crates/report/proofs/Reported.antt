@@ -28,7 +28,7 @@ use Rattle.tables.proofs.ByNumber.{TablesKept, segments_length, paths_length, se
 use Rattle.gfa_spec.proofs.Counting.{map_some}
 use Rattle.tables.proofs.Numbers.{none_sequence, some_sequence}
 use Rattle.runs.specs.Counts.{over_rows}
-use Rattle.report_spec.specs.Nodes.{each_once, nodes, node_of, links_on, order_of, orientations, repeats, longest as longestOf}
+use Rattle.report_spec.specs.Nodes.{each_once, nodes, node_of, links_on, order_of, orientations, repeats, longest as longest_of}
 use Rattle.report_spec.specs.Lines.{bucket_line, report}
 use Rattle.nodes.specs.Counters.{named}
 use Rattle.nodes.specs.Table.{counter_no, name_no, names_to, code, is_pair, bits_of, links_among}
@@ -47,7 +47,7 @@ use Rattle.node_lines.proofs.Lengths.{by_length, buckets_sorted}
 use Rattle.ranks.proofs.Merges.{nums_split}
 use Rattle.writers.proofs.Joining.{ended_append}
 use Rattle.ranks.proofs.Numbering.{each_up}
-use Rattle.nodes.proofs.Pairs.{each, both as bothOf, of_each}
+use Rattle.nodes.proofs.Pairs.{each, both as both_of, of_each}
 use Rattle.tally.proofs.Linking.{tabled_stands}
 use Rattle.work.specs.Rows.{word_of}
 
@@ -78,7 +78,7 @@ flags : Bool → Bool → Bool → Bool → Bool
 flags f g h k = agrees (has_pair (code f g h k) 1) f && (agrees (has_pair (code f g h k) 2) g && (agrees (has_pair (code f g h k) 4) h && agrees (has_pair (code f g h k) 8) k))
 
 flags_computed : each flags ≡ true
-unfolding each bothOf flags agrees has_pair code bit
+unfolding each both_of flags agrees has_pair code bit
 flags_computed = refl
 
 pairs_code : (f g h k : Bool) → pairs_from (code f g h k) ≡ flagged f g h k
@@ -277,6 +277,6 @@ module _ {es : List Entry} {text w w' : List ℕ} {b : Bases} {n : Counts} {m : 
       let c : t.nodes ≡ same_node_pairs es = unfold same_node_pairs over_paths in rw x.of_paths (unfold over_rows in q.nodes) in
       let d : t.steps ≡ same_step_pairs es = unfold same_step_pairs over_paths in rw x.of_paths (unfold over_rows in q.steps) in
       let e : t.runs ≡ length (join (map repeats (paths es))) = rw x.of_paths q.runs in
-      let f : t.longest ≡ longestOf (join (map repeats (paths es))) = rw x.of_paths q.longest in
+      let f : t.longest ≡ longest_of (join (map repeats (paths es))) = rw x.of_paths q.longest in
       let g : buckets (listed text w' b n (lengths_of b n) m) ≡ map (bucket_line ns) (lengths ns) = ap buckets listed_by_length ∙ buckets_sorted ns ∙ (unfold buckets in refl) in
       rw (ended_append, ended_append, how_many, ← a, ← c, ← d, ← e, ← f, ← g, first_ranks top) (unfold total_lines in refl)

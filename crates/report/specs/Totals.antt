@@ -2,13 +2,13 @@
 use Rattle.std.specs.Prelude.{ℕ, ◌+◌, ◌-◌, ◌≤◌, ◌<◌, min, max, cond, List, [], ◌∷◌, ◌++◌, map, ◌≡◌, leb, length, get_or}
 use Rattle.gfa_spec.specs.Bytes.{bytes, keep, join, ended, count}
 use Rattle.gfa_spec.specs.Records.{is_self_link}
-use Rattle.gfa_spec.specs.Runs.{Run, is_repeat, runs as runsOf, pairs, same_node, same_step}
+use Rattle.gfa_spec.specs.Runs.{Run, is_repeat, runs as runs_of, pairs, same_node, same_step}
 use Rattle.work.specs.Rows.{span, Only}
 use Rattle.tables.specs.declared.tables.Bases.{Bases}
 use Rattle.tables.specs.declared.tables.Counts.{Counts}
 use Rattle.tables.specs.ByNumber.{segments_of, links_to, paths_to, steps_from, tables_end}
 use Rattle.runs.specs.Counts.{over_rows}
-use Rattle.report_spec.specs.Nodes.{repeats, longest as longestOf}
+use Rattle.report_spec.specs.Nodes.{repeats, longest as longest_of}
 use Rattle.report_spec.specs.Lines.{number, node_lines}
 use Rattle.report.specs.declared.totals.Repeats.{Repeats}
 use Rattle.report.specs.declared.totals.Totals.{Totals}
@@ -25,7 +25,7 @@ use Rattle.node_lines.specs.Groups.{buckets, Rising}
 
 -- with some runs
 abbrev pub repeats_with : Repeats → List Run → Repeats
-repeats_with t rs = record { runs = t.runs + length (keep is_repeat rs); longest = max t.longest (longestOf (keep is_repeat rs)) }
+repeats_with t rs = record { runs = t.runs + length (keep is_repeat rs); longest = max t.longest (longest_of (keep is_repeat rs)) }
 
 -- with one run of so many steps
 abbrev pub with_run : Repeats → ℕ → Repeats
@@ -33,13 +33,13 @@ with_run t times = cond (leb 2 times) (record { runs = t.runs + 1; longest = max
 
 -- The runs of the steps from `first` up to `end` are counted.
 pub record RepeatsIs (text work : List ℕ) (b : Bases) (first end : ℕ) (t r : Repeats) : Type 0 where
-  pub is : r ≡ repeats_with t (runsOf (steps_from text work b first end))
+  pub is : r ≡ repeats_with t (runs_of (steps_from text work b first end))
   pub few : r.runs ≤ t.runs + (end - first)
 
 -- The runs of two or more of all paths.
 pub record AllRepeats (text work : List ℕ) (b : Bases) (n : Counts) (r : Repeats) : Type 0 where
   pub runs : r.runs ≡ length (join (map repeats (paths_to text work b n.paths)))
-  pub longest : r.longest ≡ longestOf (join (map repeats (paths_to text work b n.paths)))
+  pub longest : r.longest ≡ longest_of (join (map repeats (paths_to text work b n.paths)))
 
 -- The totals of all links and paths.
 pub record TotalsIs (text work : List ℕ) (b : Bases) (n : Counts) (t : Totals) : Type 0 where
@@ -47,7 +47,7 @@ pub record TotalsIs (text work : List ℕ) (b : Bases) (n : Counts) (t : Totals)
   pub nodes : t.nodes ≡ over_rows (pairs same_node) text work b n
   pub steps : t.steps ≡ over_rows (pairs same_step) text work b n
   pub runs : t.runs ≡ length (join (map repeats (paths_to text work b n.paths)))
-  pub longest : t.longest ≡ longestOf (join (map repeats (paths_to text work b n.paths)))
+  pub longest : t.longest ≡ longest_of (join (map repeats (paths_to text work b n.paths)))
 
 -- ---- the order of the nodes
 

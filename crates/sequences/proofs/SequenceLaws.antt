@@ -36,10 +36,10 @@ unfolding reverse_complement
 length_reversed comp l = simp (length-map, length-reverse)
 
 -- a byte of the reverse complement of a part
-pub get_d_reversed : (from n i : ℕ) (text : List ℕ) → from + n ≤ length text → i < n
+pub get_or_reversed : (from n i : ℕ) (text : List ℕ) → from + n ≤ length text → i < n
     → get_or (reverse_complement complement (part from n text)) i 0 ≡ complement (get_or text (from + n - 1 - i) 0)
 unfolding reverse_complement complement
-get_d_reversed from n i text h k =
+get_or_reversed from n i text h k =
     let long = length_part from n text h in
     let place : from + (n - 1 - i) ≡ from + n - 1 - i = omega arith in
     get_or-map complement (reverse (part from n text)) i 0

@@ -1,7 +1,7 @@
 // A sequence as a step of either orientation spells it.
 ghost use Rattle.std.specs.Prelude.{◌+◌, ◌≤◌, length};
 ghost use Rattle.gfa_spec.specs.Bytes.{part};
-ghost use Rattle.gfa_spec.specs.Sequences.{complement as complementOf, reverse_complement, oriented};
+ghost use Rattle.gfa_spec.specs.Sequences.{complement as complement_of, reverse_complement, oriented};
 ghost use Rattle.writers.specs.Writers.{Wrote};
 
 use crate::complement::complement;
@@ -17,7 +17,7 @@ pub fn put_reversed(
     n: usize,
 ) -> usize
     requires { from + n ≤ length text.now }
-    ensures { Wrote limit out.old at (reverse_complement complementOf (part from n text.now)) out.new result }
+    ensures { Wrote limit out.old at (reverse_complement complement_of (part from n text.now)) out.new result }
 {
     let room = fitting(out.len(), at, limit, n);
     let last = from + n;
@@ -40,7 +40,7 @@ pub fn put_oriented(
     orientation: usize,
 ) -> usize
     requires { from + n ≤ length text.now }
-    ensures { Wrote limit out.old at (oriented complementOf orientation (part from n text.now)) out.new result }
+    ensures { Wrote limit out.old at (oriented complement_of orientation (part from n text.now)) out.new result }
 {
     if orientation == 45 {
         return put_reversed(out, at, limit, text, from, n);
