@@ -34,7 +34,7 @@ COUNTERS = """
 
 HEAD = """
 use Rattle.std.specs.Prelude.{ℕ, Bool, true, false, not, ◌&&◌, List, [], ◌∷◌, T, eqb}
-use Rattle.std.proofs.Math.Option.{Option, none, some}
+use Rattle.std.specs.Prelude.{Option, None, Some}
 USES
 
 counters : Stats → List ℕ
@@ -60,12 +60,12 @@ answer-refuses n l f k (Outcome.refusal r) = refuses n l f k r
 answer-refuses n l f k (answer bs) = false
 
 is-place : ℕ → Option ℕ → Bool
-is-place i none = false
-is-place i (some k) = eqb i k
+is-place i None = false
+is-place i (Some k) = eqb i k
 
 is-none : Option ℕ → Bool
-is-none none = true
-is-none (some k) = false
+is-none None = true
+is-none (Some k) = false
 
 """
 OWN = ["counters", "refuses", "normal-is", "normal-refuses", "answer-is", "answer-refuses", "is-place", "is-none"]

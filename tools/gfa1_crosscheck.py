@@ -28,19 +28,20 @@ SEED, REAL, MUTATED, ENOUGH, LONGEST, CHUNK, SHOWN = 7, 300, 150, 50, 90, 50, 20
 HEAD = """
 use Rattle.std.specs.Prelude.{ℕ, Bool, true, false, not, ◌&&◌, List, [], ◌∷◌, ◌++◌, map, T, eqb}
 use Prim.Native.String.{String}
-use Rattle.std.proofs.Math.Option.{Option, none, some, Option-elim}
+use Rattle.std.specs.Prelude.{Option, None, Some}
+use Rattle.gfa_spec.specs.Options.{map_or}
 USES
 
 visit_texts : Visit → List (List ℕ)
 visit_texts v = v.name ∷ (v.orientation ∷ []) ∷ []
 
 record_texts : Option Record → List (List ℕ)
-record_texts none = []
-record_texts (some (Record.segment name sequence tags)) = name ∷ sequence ∷ tags
-record_texts (some (Record.link from from_orientation to to_orientation overlap tags)) =
+record_texts None = []
+record_texts (Some (Record.segment name sequence tags)) = name ∷ sequence ∷ tags
+record_texts (Some (Record.link from from_orientation to to_orientation overlap tags)) =
     from ∷ (from_orientation ∷ []) ∷ to ∷ (to_orientation ∷ []) ∷ overlap ∷ tags
-record_texts (some (Record.path name visits overlaps tags)) = name ∷ (join (map visit_texts visits) ++ (overlaps ∷ tags))
-record_texts (some (Record.walk sample haplotype sequence start end steps visits tags)) =
+record_texts (Some (Record.path name visits overlaps tags)) = name ∷ (join (map visit_texts visits) ++ (overlaps ∷ tags))
+record_texts (Some (Record.walk sample haplotype sequence start end steps visits tags)) =
     sample ∷ haplotype ∷ sequence ∷ start ∷ end ∷ steps ∷ (join (map visit_texts visits) ++ tags)
 
 same_all : List (List ℕ) → List (List ℕ) → Bool
@@ -54,20 +55,20 @@ is true b = b
 is false b = not b
 
 same_number : Option ℕ → Option ℕ → Bool
-same_number none none = true
-same_number none (some n) = false
-same_number (some m) none = false
-same_number (some m) (some n) = eqb m n
+same_number None None = true
+same_number None (Some n) = false
+same_number (Some m) None = false
+same_number (Some m) (Some n) = eqb m n
 
 -- allowed by 1.1; by 1.0 too; no comma in a segment name; the record's texts
 allowed : Bool → Bool → String → List String → Bool
 allowed older plain l texts =
     allows (bytes l) && is older (allows10 (bytes l)) && is plain (no_comma (bytes l))
-    && same_number (first_broken (bytes l)) none && same_all (record_texts (states (bytes l))) (map bytes texts)
+    && same_number (first_broken (bytes l)) None && same_all (record_texts (states (bytes l))) (map bytes texts)
 
 -- not allowed, and the first column that is missing or breaks its expression
 broken : ℕ → String → Bool
-broken k l = not (allows (bytes l)) && not (allows10 (bytes l)) && same_number (first_broken (bytes l)) (some k)
+broken k l = not (allows (bytes l)) && not (allows10 (bytes l)) && same_number (first_broken (bytes l)) (Some k)
 
 -- that column is required: no record is stated
 refused : ℕ → String → Bool
@@ -79,7 +80,7 @@ mistagged k plain l texts =
     broken k l && allows_untagged (bytes l) && is plain (no_comma (bytes l)) && same_all (record_texts (states (bytes l))) (map bytes texts)
 
 """
-OWN = ["Option-elim", "visit_texts", "record_texts", "same_all", "is", "same_number", "allowed", "broken", "refused", "mistagged"]
+OWN = ["visit_texts", "record_texts", "same_all", "is", "same_number", "allowed", "broken", "refused", "mistagged"]
 
 # ---- the specification
 

@@ -10,30 +10,18 @@ use crate::lists::Case;
 // A case that its list cuts off, or that asks for a longer buffer, does not agree.
 pub fn agrees(
     list: &[u8],
-    start: usize,
     c: Case,
     row: &[usize; 24],
     answer: &[usize; 4],
     more: &[usize],
     out: &[u8],
 ) -> bool
-    requires case_is { CaseIs (length list.now) start c }
-    requires more_len_bound { length more.now ≤ 14 }
+    requires { CaseIs (length list.now) c.start c }
     ensures { Tells (Agrees list.now c row.now answer.now more.now out.now) result }
 {
-    let output = c.output;
-    let last = c.last;
-    if last == list.len() {
-        return false;
-    }
-    if out.len() < row[ROOM] {
-        return false;
-    }
-    if !same_numbers(row, ANSWER, answer) {
-        return false;
-    }
-    if !same_numbers(row, MORE, more) {
-        return false;
-    }
-    bytes_left(out, &list[output..last])
+    c.last < list.len()
+        && row[ROOM] <= out.len()
+        && same_numbers(row, ANSWER, answer)
+        && same_numbers(row, MORE, more)
+        && bytes_left(out, &list[c.output..c.last])
 }

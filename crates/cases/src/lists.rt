@@ -4,7 +4,6 @@ ghost use Rattle.cases.specs.Cases.{CaseIs, Skipped};
 
 use crate::headers::{OUTPUT, TEXT, forward, read_header};
 use scan::places::find;
-use writers::bytes::advance;
 
 // A case: its header starts at `start`, its name ends at `blank` and the header at `end`, its text starts at `text` and ends at `stop`,
 // its output starts at `output` and ends at `last`, and the header of the next case starts at `next`. A case that its list cuts off ends
@@ -27,14 +26,13 @@ pub fn skip(list: &[u8], from: usize) -> usize
     ensures { Skipped (length list.now) from result }
 {
     let mut at = from;
+    // By lines: the next starts where this one ends.
     while at < list.len() {
-        let end = find(list, 10, at, list.len());
-        if at < end {
-            if list[at] != b'#' {
-                return at;
-            }
+        let end = find(list, b'\n', at, list.len());
+        if at < end && list[at] != b'#' {
+            return at;
         }
-        at = advance(end, 1, list.len());
+        at = forward(end, 1, list.len());
     }
     at
 }
@@ -45,22 +43,10 @@ pub fn case_at(list: &[u8], start: usize, row: &mut [usize; 24]) -> Case
     ensures { CaseIs (length list.now) start result }
 {
     let size = list.len();
-    let end = find(list, 10, start, size);
+    let end = find(list, b'\n', start, size);
     read_header(list, start, end, row);
-    let blank = find(list, 32, start, end);
-    if end == size {
-        return Case {
-            start,
-            blank,
-            end,
-            text: end,
-            stop: end,
-            output: end,
-            last: end,
-            next: end,
-        };
-    }
-    let text = end + 1;
+    let blank = find(list, b' ', start, end);
+    let text = forward(end, 1, size);
     let stop = forward(text, row[TEXT], size);
     let output = forward(stop, 1, size);
     let last = forward(output, row[OUTPUT], size);

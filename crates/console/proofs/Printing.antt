@@ -1,17 +1,30 @@
 -- What is shown of a service's answer is what is to be printed. Assumes nothing.
 use Prim.Native.Nat.{ℕ, ◌+◌, ◌-◌, ◌≤◌, ◌<◌}
 use native.Mathlib.Omega.{arith}
-use mathlib.Core.List.{List, ◌++◌}
+use mathlib.Core.List.{List, [], ◌∷◌, ◌++◌, append-nil}
 use mathlib.Core.Path.{◌≡◌, refl, sym, ap, ◌∙◌}
 use lib.ListN.{length, take, drop, length-take, length-append}
 use lib.Seq.{sets-eq, take_all, take-append_seam}
 use borrow.Author.Tests.{lt-ltb, le-ltb}
 use Rattle.gfa_spec.specs.Calls.{Refusal, plainly, Outcome, answer}
-use Rattle.writers.specs.Writers.{Wrote}
+use Rattle.gfa_spec.specs.Bytes.{bytes, end_line}
+use Rattle.gfa_spec.specs.Decimal.{decimal}
+use Rattle.writers.specs.declared.writer.Writer.{Writer}
+use Rattle.writers.specs.Writers.{Wrote, Starts, Puts}
 use Rattle.writers.proofs.Writing.{keeps}
 use Rattle.reader.specs.declared.answers.Answer.{Answer}
-use Rattle.reader.specs.Served.{answer_of, output_of}
-use Rattle.console.specs.Printed.{refusal_text, printed, limited, Prints, ShownIs}
+use Rattle.std.specs.Prelude.{Err}
+use Rattle.refusals.specs.declared.refusal.Refusal as refusal
+use Rattle.refusals.specs.Refusals.{stated}
+use Rattle.reader.specs.Served.{answer_of, answer_in, output_of}
+use Rattle.console.specs.Printed.{number_line, refusal_text, printed, limited, Prints, ShownIs}
+
+-- the lines of a refusal, written at the front of a buffer
+pub put_lines : {v w : Writer} {out out' : List ℕ} (a : Answer) → Starts out (length out) v
+    → Puts v (end_line (bytes "refused" ++ (61 ∷ decimal a.number)) ++ (end_line (bytes "line" ++ (61 ∷ decimal a.line)) ++ (end_line (bytes "from" ++ (61 ∷ decimal a.from)) ++ (end_line (bytes "length" ++ (61 ∷ decimal a.length)) ++ [])))) w
+    → out' ≡ w.out.now → Wrote (length out) out 0 (refusal_text a) out' w.at
+unfolding refusal_text number_line
+put_lines {out = out} a s p e = rw e (simp append-nil at (rw (s.limit, s.front, s.bytes) at p.wrote))
 
 -- a text at the front of a buffer, cut where the buffer ends
 front : {out out' p : List ℕ} {n : ℕ} → Wrote (length out) out 0 p out' n → take n out' ≡ take (length out') p
@@ -41,10 +54,10 @@ prints_answer out {mid} {out'} {a} {n} (answer bs) h e m s =
     record { bytes = rw (long, same, m, take-append_seam) (sym (take_all (length (bs ++ drop (length bs) out)) bs room)); inside = rw (long, same, m) room }
 
 -- a text of more than 2,048 bytes
-pub prints_long : (text : List ℕ) {out out' : List ℕ} {n : ℕ} {a : Answer} (o : Outcome) → 2048 < length text → a ≡ record { number = 1; line = 0; from = 0; length = 0 }
+pub prints_long : (text : List ℕ) {out out' : List ℕ} {n : ℕ} {a : Answer} (q : refusal.Refusal) (o : Outcome) → 2048 < length text → stated q ≡ plainly 1 → a ≡ answer_in (Err q)
     → Wrote (length out) out 0 (refusal_text a) out' n → Prints out' n (limited text o)
-unfolding limited plainly
-prints_long text o l e w = prints_refusal (plainly 1) (limited text o) (rw (lt-ltb 2048 (length text) l)) (rw e at w)
+unfolding limited
+prints_long text q o l e f w = prints_refusal (stated q) (limited text o) (rw (lt-ltb 2048 (length text) l, e)) (rw f at w)
 
 -- and any other
 pub prints_limited : (text : List ℕ) {out' : List ℕ} {n : ℕ} (o : Outcome) → length text ≤ 2048 → Prints out' n o → Prints out' n (limited text o)

@@ -6,17 +6,23 @@ ghost use Rattle.writers.specs.Writers.{Wrote};
 ghost use Rattle.console.specs.Printed.{refusal_text, ShownIs};
 
 use reader::answers::Answer;
-use writers::pieces::put_number_line;
+use writers::pieces::put_number_lines;
+use writers::writer::Writer;
 
 // The lines of a refusal, at the front of `out` as far as there is room.
 pub fn put_refusal(out: &mut [u8], a: Answer) -> usize
     ensures { Wrote (length out.old) out.old 0 (refusal_text a) out.new result }
 {
+    let lines: [(&[u8], u64); 4] = [
+        (b"refused", a.number as u64),
+        (b"line", a.line as u64),
+        (b"from", a.from as u64),
+        (b"length", a.length as u64),
+    ];
     let limit = out.len();
-    let number = put_number_line(out, 0, limit, b"refused", a.number as u64);
-    let line = put_number_line(out, number, limit, b"line", a.line as u64);
-    let from = put_number_line(out, line, limit, b"from", a.from as u64);
-    put_number_line(out, from, limit, b"length", a.length as u64)
+    let mut w = Writer::new(out, limit);
+    put_number_lines(&mut w, &lines);
+    w.at
 }
 
 // How many bytes at the front of `out` are to be printed: the answer that stands there, or the lines of the refusal that are put there.

@@ -4,7 +4,7 @@ use native.Mathlib.Decide.{dec_lt}
 use native.Mathlib.Omega.{arith}
 use mathlib.Core.Bool.{true, false, ◌&&◌}
 use mathlib.Core.List.{List, [], ◌∷◌, ◌++◌}
-use mathlib.Core.Option.{none, some}
+use Rattle.std.specs.Prelude.{Option, None, Some}
 use mathlib.Core.Path.{◌≡◌, refl, sym, ◌∙◌}
 use lib.Dec.{eqb}
 use borrow.Author.Tests.{eqb-true, eq-eqb}
@@ -12,7 +12,7 @@ use Rattle.gfa_spec.specs.Bytes.{same, nth}
 use Rattle.gfa_spec.proofs.Tests.{by_test, both, refute}
 use Rattle.normalize_spec.specs.Folding.{New, made_for}
 use Rattle.normalize_spec.proofs.Images.{made_append}
-use Rattle.work.specs.Rows.{rows_at}
+use Rattle.work.specs.Rows.{rows_at, word_of}
 use Rattle.tables.specs.declared.tables.Bases.{Bases}
 use Rattle.tables.specs.declared.tables.Counts.{Counts}
 use Rattle.tables.specs.ByNumber.{segment_no}
@@ -28,7 +28,7 @@ use Rattle.new_segs.proofs.Lookups.{unit_same}
 
 module _ (unit : List ℕ) (count : ℕ) where
   -- one that is not found is sought among more
-  none_append : (new more : List New) → made_for unit count new ≡ none → made_for unit count (new ++ more) ≡ made_for unit count more
+  none_append : (new more : List New) → made_for unit count new ≡ None → made_for unit count (new ++ more) ≡ made_for unit count more
   unfolding made_for
   none_append [] more h = refl
   none_append (n ∷ new) more h =
@@ -37,11 +37,11 @@ module _ (unit : List ℕ) (count : ℕ) where
       (λ e. rw e (none_append new more (rw e at h)))
 
   -- a list of one
-  one_found : (n : New) → (same n.unit unit && eqb n.count count) ≡ true → made_for unit count (n ∷ []) ≡ some n.id
+  one_found : (n : New) → (same n.unit unit && eqb n.count count) ≡ true → made_for unit count (n ∷ []) ≡ Some n.id
   unfolding made_for
   one_found n e = rw e
 
-  one_none : (n : New) → (same n.unit unit && eqb n.count count) ≡ false → made_for unit count (n ∷ []) ≡ none
+  one_none : (n : New) → (same n.unit unit && eqb n.count count) ≡ false → made_for unit count (n ∷ []) ≡ None
   unfolding made_for
   one_none n e = rw e
 
@@ -58,7 +58,7 @@ module _ {text w : List ℕ} {b : Bases} {n : Counts} {g : Layout} {first q : �
   test_at j l = rw (unit_same text w b n unit h m.source.apart (segment_words w g j).unit.0 (m.rows.row j l).unit)
 
   -- none is, of the first p
-  none_of : (p : ℕ) → p ≤ q → ((i : ℕ) → i < p → (segment_words w g i).unit.0 ≡ unit → (segment_words w g i).count ≡ count → ⊥) → made_for name count (news_at text w b g first p) ≡ none
+  none_of : (p : ℕ) → p ≤ q → ((i : ℕ) → i < p → (segment_words w g i).unit.0 ≡ unit → (segment_words w g i).count ≡ count → ⊥) → made_for name count (news_at text w b g first p) ≡ None
   none_of zero l d = unfold news_at rows_at made_for in refl
   none_of (suc p) l d =
       let fails : (eqb (segment_words w g p).unit.0 unit && eqb (segment_words w g p).count count) ≡ false =
@@ -69,12 +69,12 @@ module _ {text w : List ℕ} {b : Bases} {n : Counts} {g : Layout} {first q : �
       ∙ one_none name count (new_at text b g first w p) (test_at p (omega arith) ∙ fails))
 
   -- the one that is
-  found_at : (p j : ℕ) → p ≤ q → j < p → (segment_words w g j).unit.0 ≡ unit → (segment_words w g j).count ≡ count → made_for name count (news_at text w b g first p) ≡ some (new_at text b g first w j).id
+  found_at : (p j : ℕ) → p ≤ q → j < p → (segment_words w g j).unit.0 ≡ unit → (segment_words w g j).count ≡ count → made_for name count (news_at text w b g first p) ≡ Some (new_at text b g first w j).id
   found_at zero j l k u c = absurd (omega arith)
   found_at (suc p) j l k u c = rw (news_more text w b n g first p) (go (dec_lt j p) (λ i. found_at p j (omega arith) i u c))
     where
-      go : Dec (j < p) → (j < p → made_for name count (news_at text w b g first p) ≡ some (new_at text b g first w j).id)
-          → made_for name count (news_at text w b g first p ++ (new_at text b g first w p ∷ [])) ≡ some (new_at text b g first w j).id
+      go : Dec (j < p) → (j < p → made_for name count (news_at text w b g first p) ≡ Some (new_at text b g first w j).id)
+          → made_for name count (news_at text w b g first p ++ (new_at text b g first w p ∷ [])) ≡ Some (new_at text b g first w j).id
       go (yes i) r = made_append name count (news_at text w b g first p) (new_at text b g first w p ∷ []) (new_at text b g first w j).id (r i)
       go (no i) r =
           let last : p ≡ j = omega arith in
@@ -83,14 +83,13 @@ module _ {text w : List ℕ} {b : Bases} {n : Counts} {g : Layout} {first q : �
           (none_of j (omega arith) (λ a d x y. m.alone a j d (omega arith) (x ∙ sym u) (y ∙ sym c)))
           ∙ one_found name count (new_at text b g first w j) (test_at j (omega arith) ∙ rw (eq-eqb (segment_words w g j).unit.0 unit u, eq-eqb (segment_words w g j).count count c)))
 
-  module _ {r : ℕ} (f : MadeIs w g q unit count r) where
-    pub made_found : 0 < r → made_for (segment_no text w b unit).id count (news_at text w b g first q) ≡ some (new_at text b g first w (r - 1)).id
-    unfolding name
-    made_found l = found_at q (r - 1) (omega arith) (omega (arith, f.below)) (f.on l).0 (f.on l).1
+  pub made_found : {r : Option ℕ} {j : ℕ} → MadeIs w g q unit count r → r ≡ Some j → made_for (segment_no text w b unit).id count (news_at text w b g first q) ≡ Some (new_at text b g first w j).id
+  unfolding name
+  made_found {j = j} f e = let o = f.on j e in found_at q j (omega arith) o.0 o.1 o.2
 
-    pub made_none : r ≡ 0 → made_for (segment_no text w b unit).id count (news_at text w b g first q) ≡ none
-    unfolding name
-    made_none e = none_of q (omega arith) (λ i l. f.later i (omega arith) l)
+  pub made_none : {r : Option ℕ} → MadeIs w g q unit count r → r ≡ None → made_for (segment_no text w b unit).id count (news_at text w b g first q) ≡ None
+  unfolding name word_of
+  made_none f e = none_of q (omega arith) (λ i l. f.later i (rw e (omega arith)) l)
 
 -- ---- names of nodes
 

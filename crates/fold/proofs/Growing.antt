@@ -3,7 +3,7 @@ use Prim.Native.Nat.{ℕ, ◌+◌, ◌≤◌, ◌<◌}
 use native.Mathlib.Omega.{arith}
 use mathlib.Core.Bool.{◌&&◌}
 use mathlib.Core.List.{List, ◌++◌}
-use mathlib.Core.Option.{some}
+use Rattle.std.specs.Prelude.{Some}
 use mathlib.Core.Path.{◌≡◌, refl, ◌∙◌}
 use lib.Dec.{eqb}
 use lib.ListN.{length, get_or}
@@ -33,7 +33,7 @@ module _ {text w w' : List ℕ} {b : Bases} {n : Counts} {g : Layout} (s : Sourc
   pub folds_kept : {ss fs : List Segment} → Folds ss fs text w b n g → Folds ss fs text w' b n g
   folds_kept {ss} {fs} f = record { segs = (low_stands s low).of_segments ∙ f.segs; marks = marks }
     where
-      marks : (k : ℕ) (run : Run) → segment_number ss run.step.name.bytes ≡ some k → k < n.segs → is_folded_run fs run ≡ (is_repeat run && eqb (get_or w' (g.folded + k) 0) 1)
+      marks : (k : ℕ) (run : Run) → segment_number ss run.step.name.bytes ≡ Some k → k < n.segs → is_folded_run fs run ≡ (is_repeat run && eqb (get_or w' (g.folded + k) 0) 1)
       marks k run e h = rw (low.word (g.folded + k) (omega (arith, s.placed.last))) (f.marks k run e h)
 
   -- a step on a segment of the text

@@ -2,7 +2,7 @@
 use Prim.Native.Nat.{ℕ, zero, suc, ◌<◌}
 use native.Mathlib.Omega.{arith}
 use mathlib.Core.List.{List, [], ◌∷◌}
-use mathlib.Core.Option.{Option, none, some}
+use Rattle.std.specs.Prelude.{Option, None, Some}
 use mathlib.Core.Path.{◌≡◌, refl, ◌∙◌}
 use lib.ListN.{length}
 use Rattle.gfa_spec.specs.Bytes.{nth, Each}
@@ -31,15 +31,15 @@ known_number : {ss : List Segment} {name : List ℕ} → Known ss name → Known
 known_number {ss} {name} h = go (segment_number ss name) refl
   where
     go : (o : Option ℕ) → segment_number ss name ≡ o → KnownIn ss name
-    go (some k) e = record { number = k; is = e }
-    go none e =
-        let found : sequence_of ss name ≡ none = number_sequence ss name no_segment ∙ rw e in
+    go (Some k) e = record { number = k; is = e }
+    go None e =
+        let found : sequence_of ss name ≡ None = number_sequence ss name no_segment ∙ rw e in
         let z : ◌≡◌ {A = ℕ} 0 1 = cc (found, h.found) in
         absurd (omega arith)
 
 -- Where no step is bad, the steps of all paths name segments.
 pub all_known : (es : List Entry) (text work : List ℕ) (b : Bases) (n : Counts) → segments es ≡ segments_of text work b n → paths es ≡ paths_to text work b n.paths
-    → bad_step es (paths es) ≡ none → AllKnown text work b n
+    → bad_step es (paths es) ≡ None → AllKnown text work b n
 all_known es text work b n e f h = record { paths = λ p l. record { step = λ k d m. known_number (each_nth named (path_no text work b p).steps k d (path p l) m) } }
   where
     named : Step → Type 0

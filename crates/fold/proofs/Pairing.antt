@@ -1,9 +1,12 @@
 -- The pass over new steps that counts adjacent pairs. Assumes nothing.
 use Prim.Native.Nat.{ℕ, ◌+◌, ◌*◌, ◌-◌, ◌≤◌, ◌<◌}
 use native.Mathlib.Omega.{arith}
-use mathlib.Core.Bool.{Bool, true, false}
+use mathlib.Core.Bool.{Bool, true, ◌&&◌}
 use mathlib.Core.List.{List, map}
 use mathlib.Core.Path.{◌≡◌, sym, ap, ◌∙◌}
+use mir.Val.{bool_byte}
+use denote.Enum.Bare.{sameb}
+use Rattle.scan.specs.contracts.orientation.Orientation.{the_type}
 use lib.Dec.{eqb}
 use lib.ListN.{length}
 use Rattle.gfa_spec.specs.Bytes.{sum, distinct}
@@ -19,8 +22,9 @@ use Rattle.normalize_tables.specs.declared.rows.NewPathWords.{NewPathWords}
 use Rattle.normalize_tables.specs.Rewritten.{NewRows}
 use Rattle.normalize_tables.specs.NewByNumber.{new_step_no, new_steps_from, new_path_no, new_paths_to, new_paths_from, NewStepIs, NewPathIs, step_is}
 use Rattle.normalize_tables.proofs.Nodes.{same_place}
-use Rattle.normalize_tables.proofs.NewByNumber.{new_steps_next, new_steps_length, new_paths_all, new_paths_next, new_paths_none}
+use Rattle.normalize_tables.proofs.NewByNumber.{eq_steps, new_steps_next, new_steps_length, new_paths_all, new_paths_next, new_paths_none}
 use Rattle.fold.specs.Pairings.{NewPairsIs, NewPairTotals}
+use Rattle.gfa_spec.proofs.Counting.{bit_byte}
 use Rattle.gfa_spec.proofs.Runs.{pairs_none, pairs_cons}
 
 -- ---- the pairs of a list, row by row
@@ -74,15 +78,15 @@ module _ {work : List ℕ} {n : Counts} {g : Layout} {m : Made} {first end : ℕ
   pairing_start h = record { low = omega arith; high = omega arith; few = (omega arith, omega arith); on_nodes = λ names d e. paired_start; on_steps = λ names d e. paired_start }
 
   module _ {k nodes steps : ℕ} (s : Pairing work n g m first end k nodes steps) where
-    pub pairing_more : {a b : NewStepWords} {x : Bool} {y z : ℕ} → k < end → NewStepIs work n g m (k - 1) a → NewStepIs work n g m k b → (y ≡ bit (eqb a.node b.node)) × (y ≤ 1)
-        → x ≡ step_is a b → (z ≡ bit x) × (z ≤ 1) → Pairing work n g m first end (k + 1) (nodes + y) (steps + z)
-    pairing_more u a b p f q =
+    pub pairing_more : {v w : NewStepWords} {x : Bool} {y z : ℕ} → k < end → NewStepIs work n g m (k - 1) v → NewStepIs work n g m k w → y ≡ bool_byte (eqb v.node w.node)
+        → x ≡ (eqb v.node w.node && sameb the_type v.mark w.mark) → z ≡ bool_byte x → Pairing work n g m first end (k + 1) (nodes + y) (steps + z)
+    pairing_more {v = v} {w = w} {x = x} u a b p f q =
         record {
           low = omega (arith, s.low);
           high = omega arith;
-          few = (omega (arith, s.few), omega (arith, s.few));
-          on_nodes = λ names d e. paired_more (s.on_nodes names d e) (omega (arith, s.low)) u (p.0 ∙ ap bit (sym (nodes_equal a b names d e)));
-          on_steps = λ names d e. paired_more (s.on_steps names d e) (omega (arith, s.low)) u (q.0 ∙ ap bit (f ∙ sym (steps_equal a b names d e)));
+          few = (omega (arith, s.few, bit_byte _ p), omega (arith, s.few, bit_byte _ q));
+          on_nodes = λ names d e. paired_more (s.on_nodes names d e) (omega (arith, s.low)) u ((bit_byte _ p).0 ∙ ap bit (sym (nodes_equal a b names d e)));
+          on_steps = λ names d e. paired_more (s.on_steps names d e) (omega (arith, s.low)) u ((bit_byte _ q).0 ∙ ap bit (f ∙ eq_steps v w ∙ sym (steps_equal a b names d e)));
         }
 
     pub pairing_end : end ≤ k → first ≤ end → NewPairsIs work n g m first end (record { nodes = nodes; steps = steps })
@@ -134,13 +138,3 @@ module _ {work : List ℕ} {n : Counts} {g : Layout} {m : Made} where
 
   pub summing_end : {i nodes steps : ℕ} → Summing work n g m i nodes steps → n.paths ≤ i → NewPairTotals work n g m (record { nodes = nodes; steps = steps })
   summing_end s h = record { nodes = λ names d e. totalled_end (s.on_nodes names d e) h; steps = λ names d e. totalled_end (s.on_steps names d e) h }
-
--- ---- a test as a number
-
-pub bit_one : {t : Bool} → t ≡ true → (1 ≡ bit t) × (1 ≤ 1)
-unfolding bit
-bit_one e = (rw e, omega arith)
-
-pub bit_none : {t : Bool} → t ≡ false → (0 ≡ bit t) × (0 ≤ 1)
-unfolding bit
-bit_none e = (rw e, omega arith)

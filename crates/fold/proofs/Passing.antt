@@ -62,11 +62,6 @@ unfolding bit
 bit_most true = omega arith
 bit_most false = omega arith
 
--- the bit that is added
-pub path_counted : (m t : Made) {d : ℕ} → (d ≡ bit (ltb m.runs t.runs)) × (d ≤ 1)
-    → ◌≡◌ {A = Made} (record { first = t.first; segs = t.segs; steps = t.steps; runs = t.runs; changed = m.changed + d }) (with_path m t)
-path_counted m t e = rw e.0
-
 -- a path's steps, by its words
 path_steps : {text w : List ℕ} {b : Bases} {n : Counts} {p : ℕ} {r : PathWords} → gfa.PathIs text w b n p r → (path_no text w b p).steps ≡ steps_from text w b r.first r.end
 path_steps e = ap (λ x. x.steps) e.path

@@ -1,18 +1,16 @@
 -- Rows of new steps are put behind the others. Assumes nothing.
 use Prim.Native.Nat.{ℕ, zero, suc, ◌+◌, ◌≤◌, ◌<◌}
-use native.Mathlib.Decide.{dec_lt, ℕ_discrete}
+use native.Mathlib.Decide.{dec_lt}
 use native.Mathlib.Omega.{arith}
 use mathlib.Core.Bool.{true}
-use mathlib.Core.List.{List, [], ◌∷◌}
-use mathlib.Core.Path.{◌≡◌, refl, ap, ◌∙◌}
-use lib.Dec.{eqb}
+use mathlib.Core.List.{List, []}
+use mathlib.Core.Path.{◌≡◌, refl, ◌∙◌}
 use lib.ListN.{length}
-use borrow.Author.Tests.{eqb-true}
 use Rattle.gfa_spec.specs.Bytes.{nth, copies}
 use Rattle.gfa_spec.specs.Reading.{Segment, is_orientation}
-use Rattle.gfa_spec.proofs.Tests.{or_either}
 use Rattle.normalize_spec.specs.Folding.{NewStep}
-use Rattle.work.proofs.Rows.{only_none, only_then, outside_less}
+use Rattle.scan.specs.Orientations.{sign_of}
+use Rattle.scan.proofs.Orientations.{sign_is}
 use Rattle.tables.specs.declared.tables.Bases.{Bases}
 use Rattle.tables.specs.declared.tables.Counts.{Counts}
 use Rattle.normalize_tables.specs.declared.layout.Layout.{Layout}
@@ -20,8 +18,8 @@ use Rattle.normalize_tables.specs.declared.layout.Made.{Made}
 use Rattle.normalize_tables.specs.declared.rows.NewStepWords.{NewStepWords}
 use Rattle.normalize_tables.specs.Layout.{Placed}
 use Rattle.normalize_tables.specs.News.{step_words, names_at, new_step_at}
-use Rattle.normalize_tables.specs.NewByNumber.{new_step_no, new_steps_from, StepRoom, StepRowsTo, step_span, NewStepPut, KeptTo, SegmentsKept, StepsKept}
-use Rattle.normalize_tables.proofs.NewByNumber.{node_kept, mark_kept, steps_put_low, steps_put_paths, steps_put_segments, steps_put_steps, steps_put_behind, new_steps_next, new_steps_none}
+use Rattle.normalize_tables.specs.NewByNumber.{new_step_no, new_steps_from, StepRoom, StepRowsTo, KeptTo, SegmentsKept}
+use Rattle.normalize_tables.proofs.NewByNumber.{steps_put_low, steps_put_paths, steps_put_segments, steps_put_steps, steps_put_behind, new_steps_next, new_steps_none}
 use Rattle.normalize_tables.proofs.NewsKept.{news_kept, names_kept, step_rows_kept}
 use Rattle.new_segs.specs.Makes.{made_at, Making, Frame}
 use Rattle.fold.specs.Turns.{EqualStepsPut, Stage}
@@ -32,56 +30,9 @@ use Rattle.new_segs.proofs.Keeping.{kept_less, of_text, making_kept}
 -- The state at i: the first i rows are put.
 pub record Putting (first work : List ℕ) (g : Layout) (k : ℕ) (r : NewStepWords) (count i : ℕ) : Type 0 where
   pub room : StepRoom work g (k + count)
-  pub small : (r.node < 4294967296) × (r.mark < 4294967296)
+  pub small : r.node < 4294967296
   pub high : i ≤ count
   pub put : EqualStepsPut first work g k r i
-
-module _ {first : List ℕ} {g : Layout} {k : ℕ} {r : NewStepWords} {count : ℕ} where
-  pub putting_start : StepRoom first g (k + count) × (r.node < 4294967296) × (r.mark < 4294967296) → Putting first first g k r count 0
-  putting_start h =
-      record {
-        room = h.0;
-        small = (h.1, h.2);
-        high = omega arith;
-        put = record { nodes = λ i l b. absurd (omega arith); marks = λ i l b. absurd (omega arith); long = refl; only = only_none };
-      }
-
-  module _ {work : List ℕ} {i : ℕ} (s : Putting first work g k r count i) where
-    pub putting_more : {work' : List ℕ} → i < count → NewStepPut work work' g (k + i) r → Putting first work' g k r count (i + 1)
-    putting_more {work'} h e =
-        record {
-          room = rw e.long s.room;
-          small = s.small;
-          high = omega arith;
-          put =
-              record {
-                nodes = λ j l b. node_at j l b (ℕ_discrete j (k + i));
-                marks = λ j l b. mark_at j l b (ℕ_discrete j (k + i));
-                long = e.long ∙ s.put.long;
-                only =
-                    only_then (step_span g k (k + (i + 1)) ∷ []) s.put.only e.only
-                    (λ j o. ((outside_less _ _ o.0 (omega arith) (omega arith), tt), (outside_less _ _ o.0 (omega arith) (omega arith), tt)));
-              };
-        }
-      where
-        old : StepsKept g (k + i) work work'
-        old = steps_put_steps g (k + i) (k + i + 1) e.only
-
-        node_at : (j : ℕ) → k ≤ j → j < k + (i + 1) → Dec (j ≡ k + i) → (step_words work' g j).node ≡ r.node
-        node_at j l b (yes q) = rw q (ap (λ x. x.node) e.words)
-        node_at j l b (no q) = node_kept g old j (omega arith) ∙ s.put.nodes j l (omega arith)
-
-        mark_at : (j : ℕ) → k ≤ j → j < k + (i + 1) → Dec (j ≡ k + i) → (step_words work' g j).mark ≡ r.mark
-        mark_at j l b (yes q) = rw q (ap (λ x. x.mark) e.words)
-        mark_at j l b (no q) = mark_kept g old j (omega arith) ∙ s.put.marks j l (omega arith)
-
-    pub putting_end : count ≤ i → EqualStepsPut first work g k r count
-    putting_end h = let all : i ≡ count = omega (arith, s.high) in rw all at s.put
-
--- an orientation fits
-pub mark_small : (mark : ℕ) → is_orientation mark ≡ true → mark < 4294967296
-unfolding is_orientation
-mark_small mark h = or_either (eqb mark 43) (eqb mark 45) h (λ e. let f = eqb-true mark 43 e in omega arith) (λ e. let f = eqb-true mark 45 e in omega arith)
 
 -- ---- what the tables say then
 
@@ -125,18 +76,18 @@ module _ {text w w' : List ℕ} {b : Bases} {n : Counts} {g : Layout} {m : Made}
       }
 
   pub put_steps_are : new_steps_from (names_at text w' b n g m.first m.segs) w' g m.steps (m.steps + c)
-      ≡ copies c (record { name = nth r.node (names_at text w b n g m.first m.segs) []; orientation = r.mark })
+      ≡ copies c (record { name = nth r.node (names_at text w b n g m.first m.segs) []; orientation = sign_of r.mark })
   put_steps_are =
-      steps_constant (names_at text w' b n g m.first m.segs) w' g m.steps c (record { name = nth r.node (names_at text w b n g m.first m.segs) []; orientation = r.mark })
+      steps_constant (names_at text w' b n g m.first m.segs) w' g m.steps c (record { name = nth r.node (names_at text w b n g m.first m.segs) []; orientation = sign_of r.mark })
       (λ i l h. unfold new_step_at in rw (u.nodes i l h, u.marks i l h, put_names))
 
-  pub put_stage : (runs changed : ℕ) → r.node < n.segs + m.segs → is_orientation r.mark ≡ true
+  pub put_stage : (runs changed : ℕ) → r.node < n.segs + m.segs
       → Stage text w' b n g (record { first = m.first; segs = m.segs; steps = m.steps + c; runs = runs; changed = changed })
-  put_stage runs changed l o = record { making = put_making; steps = record { row = λ i h. record { node = (row i h (dec_lt i m.steps)).0; mark = (row i h (dec_lt i m.steps)).1 } } }
+  put_stage runs changed l = record { making = put_making; steps = record { row = λ i h. record { node = (row i h (dec_lt i m.steps)).0; mark = (row i h (dec_lt i m.steps)).1 } } }
     where
       old : StepRowsTo (n.segs + m.segs) w' g m.steps
       old = step_rows_kept g (n.segs + m.segs) s.steps put_frame.steps (omega arith)
 
       row : (i : ℕ) → i < m.steps + c → Dec (i < m.steps) → ((step_words w' g i).node < n.segs + m.segs) × (is_orientation (step_words w' g i).mark ≡ true)
       row i h (yes k) = ((old.row i k).node, (old.row i k).mark)
-      row i h (no k) = (rw (u.nodes i (omega arith) h) l, rw (u.marks i (omega arith) h) o)
+      row i h (no k) = (rw (u.nodes i (omega arith) h) l, rw (u.marks i (omega arith) h) (sign_is r.mark))

@@ -4,7 +4,8 @@ use native.Mathlib.Omega.{arith}
 use mathlib.Core.Bool.{Bool, ◌&&◌}
 use mathlib.Core.List.{List, [], ◌∷◌, map}
 use mathlib.Core.Logic.{inl, inr, ⊎_elim}
-use mathlib.Core.Option.{some, Option-elim}
+use Rattle.std.specs.Prelude.{Some}
+use Rattle.gfa_spec.specs.Options.{map_or}
 use mathlib.Core.Path.{◌≡◌, refl, sym, ap, ◌∙◌}
 use lib.Dec.{eqb}
 use lib.ListN.{get_or}
@@ -13,6 +14,7 @@ use Rattle.gfa_spec.specs.Reading.{Segment}
 use Rattle.gfa_spec.specs.Records.{segment_number}
 use Rattle.gfa_spec.specs.Runs.{Run, runs as runs_of, is_repeat, bit}
 use Rattle.gfa_spec.proofs.Counting.{bit_set}
+use Rattle.gfa_spec.proofs.Options.{None-ne-Some}
 use Rattle.normalize_spec.specs.Folding.{AllTransformed, is_folded_run, transform_paths, none_made}
 use Rattle.normalize_spec.specs.Counting.{folded_runs}
 use Rattle.normalize_spec.proofs.Marks.{kept_run}
@@ -31,7 +33,7 @@ use Rattle.normalize_tables.specs.declared.layout.Layout.{Layout}
 use Rattle.normalize_tables.specs.declared.layout.Made.{Made}
 use Rattle.normalize_tables.specs.Layout.{Source}
 use Rattle.normalize_tables.specs.Marks.{Marked}
-use Rattle.normalize_tables.specs.News.{first_number, news_at, names_at, new_paths_at}
+use Rattle.normalize_tables.specs.News.{number_in, first_number, news_at, names_at, new_paths_at}
 use Rattle.normalize_tables.specs.NewByNumber.{new_paths_to, KeptTo}
 use Rattle.normalize_tables.specs.Rewritten.{NewRows, Folded}
 use Rattle.new_segs.specs.Makes.{next_at, made_at, Making}
@@ -50,11 +52,11 @@ pub marks_fold : {text w : List ℕ} {b : Bases} {n : Counts} {g : Layout} (p : 
     → Folds (segments_of text w b n) (keep p (segments_of text w b n)) text w b n g
 marks_fold {text} {w} {b} {n} {g} p s k = record { segs = refl; marks = marks }
   where
-    marks : (i : ℕ) (run : Run) → segment_number (segments_of text w b n) run.step.name.bytes ≡ some i → i < n.segs
+    marks : (i : ℕ) (run : Run) → segment_number (segments_of text w b n) run.step.name.bytes ≡ Some i → i < n.segs
         → is_folded_run (keep p (segments_of text w b n)) run ≡ (is_repeat run && eqb (get_or w (g.folded + i) 0) 1)
     marks i run e h =
         kept_run p (segments_of text w b n) no_segment run (unfold ids_of in s.apart)
-        ∙ rw (e, k.mark i h, bit_set (p (segment_no text w b i))) (unfold Option-elim in rw (segments_nth text w b n.segs i no_segment h))
+        ∙ rw (e, k.mark i h, bit_set (p (segment_no text w b i))) (unfold map_or in rw (segments_nth text w b n.segs i no_segment h))
 
 -- ---- before the first path
 
@@ -70,6 +72,7 @@ module _ {text before first : List ℕ} {b : Bases} {n : Counts} {g : Layout} (s
 
   -- nothing is made
   none_making : {f : ℕ} → f ≡ first_number (segments_of text first b n) → Making text first b n g f 0
+  unfolding number_in
   none_making e =
       record {
         source = cleared_source;
@@ -78,7 +81,7 @@ module _ {text before first : List ℕ} {b : Bases} {n : Counts} {g : Layout} (s
         rows = each_none;
         suffixed = record { taken = λ j i h. absurd (omega arith); rising = λ i j h l. absurd (omega arith) };
         alone = λ i j h l. absurd (omega arith);
-        lasts = λ k h. rw (c.zeros k h) (record { below = omega arith; on = λ l. absurd (omega arith); later = λ i a l. absurd (omega arith) });
+        lasts = λ k h. rw (c.zeros k h) (record { on = λ j z. absurd (None-ne-Some j z); later = λ i a l. absurd (omega arith) });
         chained = record { back = λ j h. absurd (omega arith) };
       }
 

@@ -1,16 +1,18 @@
 -- What a run becomes in the tables, and what the runs of a path become. Document 01, "Folding", rule 4.
 use Rattle.std.specs.Prelude.{ℕ, ◌+◌, ◌*◌, ◌-◌, ◌≤◌, ◌<◌, Bool, true, ◌&&◌, List, [], ◌∷◌, ◌≡◌, eqb, ltb, leb, length, get_or}
-use Rattle.std.proofs.Math.Option.{some}
+use Rattle.std.specs.Prelude.{Some}
 use Rattle.gfa_spec.specs.Bytes.{any, nth, count as count_of}
 use Rattle.gfa_spec.specs.Reading.{Segment}
 use Rattle.gfa_spec.specs.Records.{segment_number}
 use Rattle.gfa_spec.specs.Runs.{Run, runs as runs_of, is_repeat, bit}
 use Rattle.normalize_spec.specs.Folding.{Transformed, is_folded_run, onto, fold_run, keep_run, turn, transform_runs}
+use Rattle.scan.specs.declared.places.Place.{Place}
+use Rattle.scan.specs.Orientations.{sign_of}
+use Rattle.scan.specs.Places.{bytes_in}
 use Rattle.work.specs.Rows.{Only}
 use Rattle.tables.specs.declared.tables.Bases.{Bases}
 use Rattle.tables.specs.declared.tables.Counts.{Counts}
-use Rattle.tables.specs.declared.rows.Place.{Place}
-use Rattle.tables.specs.ByNumber.{segment_no, path_no, step_no, segments_of, steps_from, bytes_in}
+use Rattle.tables.specs.ByNumber.{segment_no, path_no, step_no, segments_of, steps_from}
 use Rattle.normalize_tables.specs.declared.layout.Layout.{Layout}
 use Rattle.normalize_tables.specs.declared.layout.Made.{Made}
 use Rattle.normalize_tables.specs.declared.rows.NewStepWords.{NewStepWords}
@@ -24,14 +26,14 @@ use Rattle.new_segs.specs.Makes.{made_at, Making, Frame}
 -- Rows of `count` equal new steps, from new step k on; only these rows have changed.
 pub record EqualStepsPut (before work : List ℕ) (g : Layout) (k : ℕ) (r : NewStepWords) (count : ℕ) : Type 0 where
   pub nodes : (i : ℕ) → k ≤ i → i < k + count → (step_words work g i).node ≡ r.node
-  pub marks : (i : ℕ) → k ≤ i → i < k + count → (step_words work g i).mark ≡ r.mark
+  pub marks : (i : ℕ) → k ≤ i → i < k + count → (step_words work g i).mark ≡ sign_of r.mark
   pub long : length work ≡ length before
   pub only : Only (step_span g k (k + count) ∷ []) before work
 
 -- A name is that of a segment.
 pub record KnownIn (ss : List Segment) (name : List ℕ) : Type 0 where
   pub number : ℕ
-  pub is : segment_number ss name ≡ some number
+  pub is : segment_number ss name ≡ Some number
 
 -- Step i names a segment of the text.
 abbrev pub KnownStep : List ℕ → List ℕ → Bases → Counts → ℕ → Type 0
@@ -43,7 +45,7 @@ pub record KnownSteps (text work : List ℕ) (b : Bases) (n : Counts) (first end
 
 -- The number of the segment that has a name.
 pub record UnitIs (text work : List ℕ) (b : Bases) (n : Counts) (name : Place) (r : ℕ) : Type 0 where
-  pub is : segment_number (segments_of text work b n) (bytes_in text name) ≡ some r
+  pub is : segment_number (segments_of text work b n) (bytes_in text name) ≡ Some r
   pub below : r < n.segs
 
 -- ---- between two runs
@@ -51,7 +53,7 @@ pub record UnitIs (text work : List ℕ) (b : Bases) (n : Counts) (name : Place)
 -- The segments of the text are ss, and the runs on those of fs are folded that have two or more steps: so say the marks.
 pub record Folds (ss fs : List Segment) (text work : List ℕ) (b : Bases) (n : Counts) (g : Layout) : Type 0 where
   pub segs : segments_of text work b n ≡ ss
-  pub marks : (k : ℕ) (run : Run) → segment_number ss run.step.name.bytes ≡ some k → k < n.segs → is_folded_run fs run ≡ (is_repeat run && eqb (get_or work (g.folded + k) 0) 1)
+  pub marks : (k : ℕ) (run : Run) → segment_number ss run.step.name.bytes ≡ Some k → k < n.segs → is_folded_run fs run ≡ (is_repeat run && eqb (get_or work (g.folded + k) 0) 1)
 
 -- What holds of the new segments and of the rows of the new steps.
 pub record Stage (text work : List ℕ) (b : Bases) (n : Counts) (g : Layout) (m : Made) : Type 0 where

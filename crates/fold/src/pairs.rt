@@ -6,8 +6,8 @@ ghost use Rattle.normalize_tables.specs.Rewritten.{NewRows};
 ghost use Rattle.fold.specs.Pairings.{NewPairsIs, NewPairTotals};
 
 use normalize_tables::layout::{Area, Layout, Made};
-use normalize_tables::rows::{new_path_at, new_step_at, same_new_step};
-use runs::counts::{Pairs, bit_of};
+use normalize_tables::rows::{new_path_at, new_step_at};
+use runs::counts::Pairs;
 use tables::entry::PathNo;
 use tables::tables::{Bases, Counts};
 
@@ -19,13 +19,11 @@ pub fn count_new_pairs(work: &[u32], a: Area, first: usize, end: usize) -> Pairs
 {
     let mut nodes = 0;
     let mut steps = 0;
-    let mut k = first + 1;
-    while k < end {
+    for k in first + 1..end {
         let s = new_step_at(work, a, k - 1);
         let t = new_step_at(work, a, k);
-        nodes += bit_of(s.node == t.node);
-        steps += bit_of(same_new_step(s, t));
-        k += 1;
+        nodes += usize::from(s.node == t.node);
+        steps += usize::from(s == t);
     }
     Pairs { nodes, steps }
 }
@@ -39,13 +37,11 @@ pub fn new_pairs(work: &[u32], b: Bases, n: Counts, g: Layout, m: Made) -> Pairs
     let a = Area { b, n, g, m };
     let mut nodes = 0;
     let mut steps = 0;
-    let mut i = 0;
-    while i < n.paths {
+    for i in 0..n.paths {
         let path = new_path_at(work, a, PathNo(i as u32));
         let more = count_new_pairs(work, a, path.first, path.end);
         nodes += more.nodes;
         steps += more.steps;
-        i += 1;
     }
     Pairs { nodes, steps }
 }

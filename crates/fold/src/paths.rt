@@ -8,10 +8,9 @@ use crate::turns::turn_run;
 use new_ids::ids::first_number;
 use normalize_tables::layout::{Area, Layout, Made};
 use normalize_tables::rows::{NewPathWords, put_new_path};
-use runs::counts::bit_of;
 use runs::runs::run_from;
 use tables::entry::PathNo;
-use tables::rows::path_at;
+use tables::graph::Graph;
 use tables::tables::{Bases, Counts};
 use work::work::clear_words;
 
@@ -32,8 +31,10 @@ pub fn transform_path_steps(
 {
     let mut made = m;
     let mut i = first;
+    // By runs: the next starts where this one ends.
     while i < end {
-        let next = run_from(text, work, b, n, i, end);
+        let graph = Graph { text, work, b, n };
+        let next = run_from(&graph, i, end);
         made = turn_run(text, work, Area { b, n, g, m: made }, i, next - i);
         i = next;
     }
@@ -41,6 +42,7 @@ pub fn transform_path_steps(
 }
 
 // What was made with one path more, which is changed where runs of it were folded: before it there was `m`.
+#[tactic(auto, using(gfa_spec::proofs::Counting::bit_byte))]
 fn with_path(m: Made, t: Made) -> Made
     requires { m.changed < 4294967296 }
     ensures { result ≡ with_path m t }
@@ -50,11 +52,12 @@ fn with_path(m: Made, t: Made) -> Made
         segs: t.segs,
         steps: t.steps,
         runs: t.runs,
-        changed: m.changed + bit_of(m.runs < t.runs),
+        changed: m.changed + usize::from(m.runs < t.runs),
     }
 }
 
 // Transforms path `p`: its new steps are put behind the others, and its row.
+#[tactic(auto, using(crate::proofs::Passing::path_room, crate::proofs::Passing::path_known))]
 pub fn transform_path(
     text: &[u8],
     work: &mut [u32],
@@ -67,7 +70,8 @@ pub fn transform_path(
     requires { Stage text.now work.old b n g m × PathReady text.now work.old b n m p.0 }
     ensures { NextIs text.now work.old work.new b n g m p.0 result }
 {
-    let path = path_at(text, work, b, n, p);
+    let graph = Graph { text, work, b, n };
+    let path = graph.path(p);
     let t = transform_path_steps(text, work, b, n, g, m, path.first, path.end);
     put_new_path(
         work,
@@ -82,12 +86,14 @@ pub fn transform_path(
 }
 
 // Transforms all paths: new segments, new steps and new paths are put into their tables.
+#[tactic(auto, using(crate::proofs::Transforming::cleared_readable))]
 pub fn transform(text: &[u8], work: &mut [u32], b: Bases, n: Counts, g: Layout) -> Made
     requires { Source text.now work.old b n g × AllKnown text.now work.old b n }
     ensures { TransformIs text.now work.old work.new b n g result }
 {
     clear_words(work, g.last, n.segs);
-    let first = first_number(text, work, b, n);
+    let graph = Graph { text, work, b, n };
+    let first = first_number(&graph);
     let mut m = Made {
         first,
         segs: 0,
@@ -95,10 +101,8 @@ pub fn transform(text: &[u8], work: &mut [u32], b: Bases, n: Counts, g: Layout) 
         runs: 0,
         changed: 0,
     };
-    let mut p = 0;
-    while p < n.paths {
+    for p in 0..n.paths {
         m = transform_path(text, work, b, n, g, m, PathNo(p as u32));
-        p += 1;
     }
     m
 }

@@ -1,8 +1,8 @@
 // What a run of a path becomes (document 01, "Folding", rule 4).
-ghost use Rattle.std.specs.Prelude.{true, ◌≡◌, ◌+◌, ◌≤◌, ◌<◌, length};
-ghost use Rattle.gfa_spec.specs.Reading.{is_orientation};
-ghost use Rattle.tables.specs.ByNumber.{segments_of, bytes_in, Inside};
-ghost use Rattle.tables.specs.Tables.{Readable};
+ghost use Rattle.std.specs.Prelude.{◌+◌, ◌≤◌, ◌<◌, length};
+ghost use Rattle.scan.specs.Orientations.{sign_of};
+ghost use Rattle.scan.specs.Places.{Inside, bytes_in};
+ghost use Rattle.tables.specs.ByNumber.{segments_of};
 ghost use Rattle.normalize_tables.specs.NewByNumber.{StepRoom};
 ghost use Rattle.fold.specs.Turns.{EqualStepsPut, KnownIn, KnownStep, UnitIs, Stage, Room, FoldedIs, TargetIs, FoldIs, KeepIs, TurnIs};
 
@@ -10,10 +10,10 @@ use new_segs::chains::made_for;
 use new_segs::segs::make_segment;
 use normalize_tables::layout::{Area, Layout, Made};
 use normalize_tables::rows::{NewStepWords, put_new_step};
+use scan::orientation::Orientation;
+use scan::places::Place;
 use tables::entry::SegmentNo;
-use tables::rows::{Place, segment_named, step_at};
-use tables::segments::Found;
-use tables::tables::{Bases, Counts};
+use tables::graph::Graph;
 use work::work::word;
 
 // A node, and how many new segments there are with it.
@@ -25,25 +25,21 @@ pub struct Target {
 
 // Puts rows of `count` equal new steps from new step `k` on.
 pub fn put_steps(work: &mut [u32], g: Layout, k: usize, r: NewStepWords, count: usize)
-    requires { StepRoom work.old g (k + count) × (r.node < 4294967296) × (r.mark < 4294967296) }
+    requires { StepRoom work.old g (k + count) × (r.node < 4294967296) }
     ensures { EqualStepsPut work.old work.new g k r count }
 {
-    let mut i = 0;
-    while i < count {
+    for i in 0..count {
         put_new_step(work, g, k + i, r);
-        i += 1;
     }
 }
 
 // The segment that has the name, of which it is known that there is one.
-pub fn unit_of(text: &[u8], work: &[u32], b: Bases, n: Counts, name: Place) -> SegmentNo
-    requires { Readable text.now work.now b n × Inside text.now name × KnownIn (segments_of text.now work.now b n) (bytes_in text.now name) }
-    ensures { UnitIs text.now work.now b n name result.0 }
+#[tactic(auto, using(crate::proofs::Turning::units))]
+pub fn unit_of(graph: &Graph, name: Place) -> SegmentNo
+    requires { Inside graph.now.text.now name × KnownIn (segments_of graph.now.text.now graph.now.work.now graph.now.b graph.now.n) (bytes_in graph.now.text.now name) }
+    ensures { UnitIs graph.now.text.now graph.now.work.now graph.now.b graph.now.n name result.0 }
 {
-    let Found::At(unit) = segment_named(text, work, b, n, name) else {
-        return SegmentNo(0);
-    };
-    unit
+    graph.named(name).unwrap()
 }
 
 // Is a run of `count` steps on the segment to be folded?
@@ -51,21 +47,18 @@ pub fn is_folded(work: &[u32], g: Layout, unit: SegmentNo, count: usize) -> bool
     requires { g.folded + unit.0 < length work.now }
     ensures { FoldedIs work.now g unit.0 count result }
 {
-    if count < 2 {
-        return false;
-    }
-    word(work, g.folded + unit.0 as usize) == 1
+    2 <= count && word(work, g.folded + unit.0 as usize) == 1
 }
 
 // The node of the new segment of the unit and the run length, which is made where there is none.
+#[tactic(auto, using(crate::proofs::Turning::targets))]
 pub fn target_for(text: &[u8], work: &mut [u32], a: Area, unit: SegmentNo, count: usize) -> Target
     requires { Stage text.now work.old a.b a.n a.g a.m × Room a.n a.m count × (unit.0 < a.n.segs) × (2 ≤ count) }
     ensures { TargetIs text.now work.old work.new a.b a.n a.g a.m unit.0 count result }
 {
-    let j = made_for(text, work, a, unit, count);
-    if j != 0 {
+    if let Some(j) = made_for(text, work, a, unit, count) {
         return Target {
-            node: a.n.segs + (j - 1),
+            node: a.n.segs + j,
             segs: a.m.segs,
         };
     }
@@ -83,11 +76,11 @@ pub fn fold_run(
     a: Area,
     unit: SegmentNo,
     count: usize,
-    mark: usize,
+    mark: Orientation,
 ) -> Made
     requires stage { Stage text.now work.old a.b a.n a.g a.m × Room a.n a.m count }
-    requires unit_lt_segs { (unit.0 < a.n.segs) × (2 ≤ count) × (is_orientation mark ≡ true) }
-    ensures { FoldIs text.now work.old work.new a.b a.n a.g a.m unit.0 count mark result }
+    requires unit_lt_segs { (unit.0 < a.n.segs) × (2 ≤ count) }
+    ensures { FoldIs text.now work.old work.new a.b a.n a.g a.m unit.0 count (sign_of mark) result }
 {
     let m = a.m;
     let t = target_for(text, work, a, unit, count);
@@ -109,11 +102,11 @@ pub fn keep_run(
     a: Area,
     unit: SegmentNo,
     count: usize,
-    mark: usize,
+    mark: Orientation,
 ) -> Made
     requires stage { Stage text.now work.old a.b a.n a.g a.m × Room a.n a.m count }
-    requires unit_lt_segs { (unit.0 < a.n.segs) × (is_orientation mark ≡ true) }
-    ensures { KeepIs text.now work.old work.new a.b a.n a.g a.m unit.0 count mark result }
+    requires unit_lt_segs { unit.0 < a.n.segs }
+    ensures { KeepIs text.now work.old work.new a.b a.n a.g a.m unit.0 count (sign_of mark) result }
 {
     let m = a.m;
     let node = unit.0 as usize;
@@ -128,13 +121,20 @@ pub fn keep_run(
 }
 
 // Turns the run of `count` steps from step `i` on.
+#[tactic(auto, using(crate::proofs::Turning::turning))]
 pub fn turn_run(text: &[u8], work: &mut [u32], a: Area, i: usize, count: usize) -> Made
     requires stage { Stage text.now work.old a.b a.n a.g a.m × Room a.n a.m count }
     requires i_lt_steps { (i < a.n.steps) × KnownStep text.now work.old a.b a.n i }
     ensures { TurnIs text.now work.old work.new a.b a.n a.g a.m i count result }
 {
-    let s = step_at(text, work, a.b, a.n, i);
-    let unit = unit_of(text, work, a.b, a.n, s.name);
+    let graph = Graph {
+        text,
+        work,
+        b: a.b,
+        n: a.n,
+    };
+    let s = graph.step(i);
+    let unit = unit_of(&graph, s.name);
     if is_folded(work, a.g, unit, count) {
         return fold_run(text, work, a, unit, count, s.mark);
     }

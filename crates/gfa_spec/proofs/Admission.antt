@@ -2,7 +2,7 @@
 use Prim.Native.Nat.{ℕ, ◌+◌, ◌*◌, ◌≤◌, ◌<◌}
 use native.Mathlib.Omega.{arith}
 use mathlib.Core.List.{List}
-use mathlib.Core.Option.{Option, none, some}
+use Rattle.std.specs.Prelude.{Option, None, Some}
 use mathlib.Core.Path.{◌≡◌, refl, sym}
 use lib.Dec.{ltb}
 use lib.ListN.{length}
@@ -20,7 +20,7 @@ not_entries e = let z : ◌≡◌ {A = ℕ} 0 1 = cc in omega arith
 -- What an accepted call says of its text.
 pub record Admitted (text : List ℕ) (work : ℕ) (es : List Entry) : Type 0 where
   pub short : length text ≤ 1048576
-  pub clean : bad_byte 0 text ≡ none
+  pub clean : bad_byte 0 text ≡ None
   pub enough : 4 * length text + 64 ≤ work
   pub reads : parse text ≡ parsed es
 
@@ -32,10 +32,10 @@ parsed_entries (parsed ds) es e = cc
 
 -- a text whose bytes are good
 bytes_entries : (o : Option Refusal) (text : List ℕ) (work : ℕ) (es : List Entry) → of_bytes o text work ≡ entries es
-    → (o ≡ none) × (4 * length text + 64 ≤ work) × (parse text ≡ parsed es)
+    → (o ≡ None) × (4 * length text + 64 ≤ work) × (parse text ≡ parsed es)
 unfolding of_bytes
-bytes_entries (some r) text work es e = absurd (not_entries e)
-bytes_entries none text work es e =
+bytes_entries (Some r) text work es e = absurd (not_entries e)
+bytes_entries None text work es e =
     by_test (ltb work (4 * length text + 64))
     (λ h. absurd (not_entries (rw h at e)))
     (λ h. (refl, ltb-false work (4 * length text + 64) h, parsed_entries (parse text) es (rw h at e)))
@@ -60,9 +60,9 @@ entries_input text work es a =
 -- Why a call is refused, in the order of the tests.
 pub data InputRefuses (text : List ℕ) (work : ℕ) : Refusal → Type 0 where
   too_long : 1048576 < length text → InputRefuses text work (plainly 1)
-  bad_byte_refused : {r : Refusal} → length text ≤ 1048576 → bad_byte 0 text ≡ some r → InputRefuses text work r
-  little_work : length text ≤ 1048576 → bad_byte 0 text ≡ none → work < 4 * length text + 64 → InputRefuses text work (plainly 4)
-  bad_line : (n line : ℕ) → length text ≤ 1048576 → bad_byte 0 text ≡ none → 4 * length text + 64 ≤ work → parse text ≡ refused_at n line
+  bad_byte_refused : {r : Refusal} → length text ≤ 1048576 → bad_byte 0 text ≡ Some r → InputRefuses text work r
+  little_work : length text ≤ 1048576 → bad_byte 0 text ≡ None → work < 4 * length text + 64 → InputRefuses text work (plainly 4)
+  bad_line : (n line : ℕ) → length text ≤ 1048576 → bad_byte 0 text ≡ None → 4 * length text + 64 ≤ work → parse text ≡ refused_at n line
       → InputRefuses text work (on_line n line)
 
 module _ (text : List ℕ) (work : ℕ) (r : Refusal) where
@@ -71,7 +71,7 @@ module _ (text : List ℕ) (work : ℕ) (r : Refusal) where
   refusal_given {q} h e = let same : q ≡ r = cc in rw same at h
 
   -- a text that was not parsed
-  parsed_refused : (p : Parsed) → length text ≤ 1048576 → bad_byte 0 text ≡ none → 4 * length text + 64 ≤ work → parse text ≡ p → of_parsed p ≡ Input.refusal r
+  parsed_refused : (p : Parsed) → length text ≤ 1048576 → bad_byte 0 text ≡ None → 4 * length text + 64 ≤ work → parse text ≡ p → of_parsed p ≡ Input.refusal r
       → InputRefuses text work r
   unfolding of_parsed
   parsed_refused (refused_at n line) short clean enough q e = refusal_given (bad_line n line short clean enough q) e
@@ -80,8 +80,8 @@ module _ (text : List ℕ) (work : ℕ) (r : Refusal) where
   -- a text whose bytes were looked at
   bytes_refused : (o : Option Refusal) → length text ≤ 1048576 → bad_byte 0 text ≡ o → of_bytes o text work ≡ Input.refusal r → InputRefuses text work r
   unfolding of_bytes
-  bytes_refused (some q) short b e = refusal_given (bad_byte_refused short b) e
-  bytes_refused none short b e =
+  bytes_refused (Some q) short b e = refusal_given (bad_byte_refused short b) e
+  bytes_refused None short b e =
       by_test (ltb work (4 * length text + 64))
       (λ h. refusal_given (little_work short b (ltb-true work (4 * length text + 64) h)) (rw h at e))
       (λ h. parsed_refused (parse text) short b (ltb-false work (4 * length text + 64) h) refl (rw h at e))

@@ -2,7 +2,7 @@
 use Prim.Native.Nat.{ℕ, zero, suc, ◌≤◌, ◌<◌}
 use native.Mathlib.Omega.{arith}
 use mathlib.Core.List.{List, [], ◌∷◌}
-use mathlib.Core.Option.{Option, none, some}
+use Rattle.std.specs.Prelude.{Option, None, Some}
 use mathlib.Core.Path.{◌≡◌, refl, sym}
 use lib.Dec.{ltb}
 use lib.ListN.{length}
@@ -20,14 +20,14 @@ use Rattle.gfa_spec.proofs.Admission.{Admitted, InputRefuses, input_refused, ref
 -- ---- path k
 
 -- path k of a list that has so many
-pub path_some : (k : ℕ) (ps : List Path) (d : Path) → k < length ps → nth_path k ps ≡ some (nth k ps d)
+pub path_some : (k : ℕ) (ps : List Path) (d : Path) → k < length ps → nth_path k ps ≡ Some (nth k ps d)
 unfolding nth_path nth
 path_some k [] d h = absurd (omega arith)
 path_some zero (p ∷ ps) d h = refl
 path_some (suc k) (p ∷ ps) d h = path_some k ps d (omega arith)
 
 -- and of one that has not
-pub path_none : (k : ℕ) (ps : List Path) → length ps ≤ k → nth_path k ps ≡ none
+pub path_none : (k : ℕ) (ps : List Path) → length ps ≤ k → nth_path k ps ≡ None
 unfolding nth_path
 path_none k [] h = refl
 path_none zero (p ∷ ps) h = absurd (omega arith)
@@ -70,10 +70,10 @@ refused_fitted room bs h = rw (lt-ltb room (length bs) h)
 -- Why it refuses: 1 to 17; 21, there is no path k; 18 or 19, the first bad step of path k; 22, its bytes have no room.
 pub data SpellRefuses (text : List ℕ) (k room work : ℕ) : Refusal → Type 0 where
   bad_input : {r : Refusal} → InputRefuses text work r → SpellRefuses text k room work r
-  no_path : (es : List Entry) → Admitted text work es → nth_path k (paths es) ≡ none → SpellRefuses text k room work (plainly 21)
-  bad_step_refused : (es : List Entry) (p : Path) (n : ℕ) (name : Part) → Admitted text work es → nth_path k (paths es) ≡ some p
+  no_path : (es : List Entry) → Admitted text work es → nth_path k (paths es) ≡ None → SpellRefuses text k room work (plainly 21)
+  bad_step_refused : (es : List Entry) (p : Path) (n : ℕ) (name : Part) → Admitted text work es → nth_path k (paths es) ≡ Some p
       → spell complement (segments es) p.steps ≡ bad n name → SpellRefuses text k room work (on_name n name)
-  no_room : (es : List Entry) (p : Path) (bs : List ℕ) → Admitted text work es → nth_path k (paths es) ≡ some p
+  no_room : (es : List Entry) (p : Path) (bs : List ℕ) → Admitted text work es → nth_path k (paths es) ≡ Some p
       → spell complement (segments es) p.steps ≡ spelt bs → room < length bs → SpellRefuses text k room work (plainly 22)
 
 -- What it says when it answers: there is a path k, it spells these bytes, and they had room.
@@ -81,7 +81,7 @@ pub record Spells (text : List ℕ) (k room work : ℕ) (bs : List ℕ) : Type 0
   pub es : List Entry
   pub path : Path
   pub admitted : Admitted text work es
-  pub found : nth_path k (paths es) ≡ some path
+  pub found : nth_path k (paths es) ≡ Some path
   pub spelled : spell complement (segments es) path.steps ≡ spelt bs
   pub roomy : length bs ≤ room
 
@@ -94,15 +94,15 @@ module _ (text : List ℕ) (k room work : ℕ) where
       given : {q : Refusal} → SpellRefuses text k room work q → q ≡ r → SpellRefuses text k room work r
       given h same = rw same at h
 
-      from_spelt : (es : List Entry) (p : Path) → Admitted text work es → nth_path k (paths es) ≡ some p → (m : Spelt) → spell complement (segments es) p.steps ≡ m
+      from_spelt : (es : List Entry) (p : Path) → Admitted text work es → nth_path k (paths es) ≡ Some p → (m : Spelt) → spell complement (segments es) p.steps ≡ m
           → of_spelt room m ≡ Outcome.refusal r → SpellRefuses text k room work r
       from_spelt es p a f (bad n name) s e = unfold of_spelt in given (bad_step_refused es p n name a f s) (cc)
       from_spelt es p a f (spelt bs) s e = let (same, h) = fitted_refused room bs r (unfold of_spelt in e) in given (no_room es p bs a f s h) same
 
       from_path : (es : List Entry) → Admitted text work es → (o : Option Path) → nth_path k (paths es) ≡ o → of_path room es o ≡ Outcome.refusal r
           → SpellRefuses text k room work r
-      from_path es a none f e = unfold of_path in given (no_path es a f) (cc)
-      from_path es a (some p) f e = from_spelt es p a f (spell complement (segments es) p.steps) refl (unfold of_path in e)
+      from_path es a None f e = unfold of_path in given (no_path es a f) (cc)
+      from_path es a (Some p) f e = from_spelt es p a f (spell complement (segments es) p.steps) refl (unfold of_path in e)
 
       from_input : (i : Input) → input text work ≡ i → spell_entries k room i ≡ Outcome.refusal r → SpellRefuses text k room work r
       from_input (Input.refusal q) j e = unfold spell_entries in given (bad_input (input_refused text work q j)) (cc)
@@ -126,7 +126,7 @@ module _ (text : List ℕ) (k room work : ℕ) where
   unfolding spell_path
   answered_spell bs e = from_input (input text work) refl e
     where
-      from_spelt : (es : List Entry) (p : Path) → Admitted text work es → nth_path k (paths es) ≡ some p → (m : Spelt) → spell complement (segments es) p.steps ≡ m
+      from_spelt : (es : List Entry) (p : Path) → Admitted text work es → nth_path k (paths es) ≡ Some p → (m : Spelt) → spell complement (segments es) p.steps ≡ m
           → of_spelt room m ≡ answer bs → Spells text k room work bs
       from_spelt es p a f (bad n name) s e = unfold of_spelt in absurd (not_answer e)
       from_spelt es p a f (spelt out) s e =
@@ -134,8 +134,8 @@ module _ (text : List ℕ) (k room work : ℕ) where
           record { es = es; path = p; admitted = a; found = f; spelled = rw same at s; roomy = rw same at h }
 
       from_path : (es : List Entry) → Admitted text work es → (o : Option Path) → nth_path k (paths es) ≡ o → of_path room es o ≡ answer bs → Spells text k room work bs
-      from_path es a none f e = unfold of_path in absurd (not_answer e)
-      from_path es a (some p) f e = from_spelt es p a f (spell complement (segments es) p.steps) refl (unfold of_path in e)
+      from_path es a None f e = unfold of_path in absurd (not_answer e)
+      from_path es a (Some p) f e = from_spelt es p a f (spell complement (segments es) p.steps) refl (unfold of_path in e)
 
       from_input : (i : Input) → input text work ≡ i → spell_entries k room i ≡ answer bs → Spells text k room work bs
       from_input (Input.refusal q) j e = unfold spell_entries in absurd (not_answer e)

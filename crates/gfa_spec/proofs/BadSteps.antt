@@ -2,7 +2,7 @@
 use Prim.Native.Nat.{ℕ, ◌+◌, ◌≤◌}
 use native.Mathlib.Omega.{arith}
 use mathlib.Core.List.{List, [], ◌∷◌}
-use mathlib.Core.Option.{Option, none, some}
+use Rattle.std.specs.Prelude.{Option, None, Some}
 use mathlib.Core.Path.{◌≡◌, refl, ap, ◌∙◌}
 use lib.ListN.{length}
 use Rattle.gfa_spec.specs.Bytes.{same, star, Part, part, Each}
@@ -19,8 +19,8 @@ use Rattle.gfa_spec.proofs.Refusals.{NumberedSpelt, spell_numbered}
 
 -- Why a name is bad: no segment has it (18), or its segment has sequence `*` (19).
 pub data BadName (ss : List Segment) : ℕ → Part → Type 0 where
-  names_no_segment : {name : Part} → sequence_of ss name.bytes ≡ none → BadName ss 18 name
-  no_sequence : {name : Part} → sequence_of ss name.bytes ≡ some star → BadName ss 19 name
+  names_no_segment : {name : Part} → sequence_of ss name.bytes ≡ None → BadName ss 18 name
+  no_sequence : {name : Part} → sequence_of ss name.bytes ≡ Some star → BadName ss 19 name
 
 -- what is bad behind bytes is bad
 behind_bad : (seq : List ℕ) (r : Spelt) (n : ℕ) (name : Part) → behind seq r ≡ bad n name → r ≡ bad n name
@@ -40,10 +40,10 @@ module _ (F : Part → Type 0) (comp : ℕ → ℕ) (ss : List Segment) where
   step_bad : (s : Step) (o : Option (List ℕ)) (r : Spelt) (n : ℕ) (name : Part) → sequence_of ss s.name.bytes ≡ o → F s.name
       → (r ≡ bad n name → BadName ss n name × F name) → spell_step comp s o r ≡ bad n name → BadName ss n name × F name
   unfolding spell_step
-  step_bad s none r n name q f more e = given 18 n s.name name (names_no_segment q, f) e
-  step_bad s (some seq) r n name q f more e =
+  step_bad s None r n name q f more e = given 18 n s.name name (names_no_segment q, f) e
+  step_bad s (Some seq) r n name q f more e =
       by_test (same seq star)
-      (λ t. given 19 n s.name name (no_sequence (q ∙ ap some (same_equal seq star t)), f) (rw t at e))
+      (λ t. given 19 n s.name name (no_sequence (q ∙ ap Some (same_equal seq star t)), f) (rw t at e))
       (λ t. more (behind_bad (oriented comp s.orientation seq) r n name (rw t at e)))
 
   -- A bad step is bad under its number's condition, and its name has what each step's name has.
@@ -64,7 +64,7 @@ pub record NamesBad (text : List ℕ) (es : List Entry) (r : Refusal) : Type 0 w
   pub named : part r.from r.length text ≡ name.bytes
 
 -- the refusal of a bad name that stands in the text
-names_bad : (text : List ℕ) (es : List Entry) (n : ℕ) (name : Part) (r : Refusal) → BadName (segments es) n name × Within 0 text name → some (on_name n name) ≡ some r
+names_bad : (text : List ℕ) (es : List Entry) (n : ℕ) (name : Part) (r : Refusal) → BadName (segments es) n name × Within 0 text name → Some (on_name n name) ≡ Some r
     → NamesBad text es r
 unfolding on_name
 names_bad text es n name r h e =
@@ -73,27 +73,27 @@ names_bad text es n name r h e =
     rw (← given) record { number = n; name = name; is = refl; why = h.0; inside = inside; named = named }
 
 -- the first bad step of paths whose names stand in the text
-bad_named : (text : List ℕ) (es : List Entry) (ps : List Path) (r : Refusal) → Each (λ p. Each (NameWithin text) p.steps) ps → bad_step es ps ≡ some r
+bad_named : (text : List ℕ) (es : List Entry) (ps : List Path) (r : Refusal) → Each (λ p. Each (NameWithin text) p.steps) ps → bad_step es ps ≡ Some r
     → NamesBad text es r
 unfolding bad_step
 bad_named text es [] r h e = let z : ◌≡◌ {A = ℕ} 0 1 = cc in absurd (omega arith)
 bad_named text es (p ∷ ps) r h e = go (spell complement (segments es) p.steps) refl (bad_named text es ps r h.1)
   where
-    go : (q : Spelt) → spell complement (segments es) p.steps ≡ q → (bad_step es ps ≡ some r → NamesBad text es r) → NamesBad text es r
+    go : (q : Spelt) → spell complement (segments es) p.steps ≡ q → (bad_step es ps ≡ Some r → NamesBad text es r) → NamesBad text es r
     go (bad n name) d more = names_bad text es n name r (spell_bad (Within 0 text) complement (segments es) p.steps n name h.0 d) (rw (d, bad_step) at e)
     go (spelt bs) d more = more (rw (d, bad_step) at e)
 
 -- A refusal by 18 or 19 names a bad step of the text.
-pub step_refused : (text : List ℕ) (es : List Entry) (r : Refusal) → parse text ≡ parsed es → bad_step es (paths es) ≡ some r → NamesBad text es r
+pub step_refused : (text : List ℕ) (es : List Entry) (r : Refusal) → parse text ≡ parsed es → bad_step es (paths es) ≡ Some r → NamesBad text es r
 step_refused text es r reads e = bad_named text es (paths es) r (names_within text es reads) e
 
 -- the first bad step is refused by 18 or 19
-pub bad_step_numbered : (es : List Entry) (ps : List Path) (r : Refusal) → bad_step es ps ≡ some r → (18 ≤ r.number) × (r.number ≤ 19)
+pub bad_step_numbered : (es : List Entry) (ps : List Path) (r : Refusal) → bad_step es ps ≡ Some r → (18 ≤ r.number) × (r.number ≤ 19)
 unfolding bad_step on_name
 bad_step_numbered es [] r e = let z : ◌≡◌ {A = ℕ} 0 1 = cc in absurd (omega arith)
 bad_step_numbered es (p ∷ ps) r e = go (spell complement (segments es) p.steps) refl (spell_numbered complement (segments es) p.steps) (bad_step_numbered es ps r)
   where
-    go : (m : Spelt) → spell complement (segments es) p.steps ≡ m → NumberedSpelt m → (bad_step es ps ≡ some r → (18 ≤ r.number) × (r.number ≤ 19))
+    go : (m : Spelt) → spell complement (segments es) p.steps ≡ m → NumberedSpelt m → (bad_step es ps ≡ Some r → (18 ≤ r.number) × (r.number ≤ 19))
         → (18 ≤ r.number) × (r.number ≤ 19)
     go (bad n name) s h more = let same : r.number ≡ n = cc (rw (s, bad_step) at e) in omega arith
     go (spelt x) s h more = more (rw (s, bad_step) at e)

@@ -3,7 +3,7 @@ use Prim.Native.Nat.{ℕ, suc}
 use native.Mathlib.Omega.{arith}
 use mathlib.Core.Bool.{Bool, true, false, cond, not, ◌&&◌, true≢false}
 use mathlib.Core.List.{List, [], ◌∷◌, map}
-use mathlib.Core.Option.{Option, none, some}
+use Rattle.std.specs.Prelude.{Option, None, Some}
 use mathlib.Core.Path.{◌≡◌, refl}
 use lib.Dec.{eqb, leb}
 use borrow.Author.Tests.{not-true}
@@ -76,20 +76,20 @@ abbrev pub Low : List ℕ → Type 0
 Low s = Each (λ b. leb 128 b ≡ false) s
 
 -- no refusal: the test before it failed, and none follows
-no_refusal : {A : Type 0} (t : Bool) (x : A) (y : Option A) → cond t (some x) y ≡ none → (t ≡ false) × (y ≡ none)
+no_refusal : {A : Type 0} (t : Bool) (x : A) (y : Option A) → cond t (Some x) y ≡ None → (t ≡ false) × (y ≡ None)
 no_refusal true x y e = let z : ◌≡◌ {A = ℕ} 0 1 = cc in absurd (omega arith)
 no_refusal false x y e = (refl, e)
 
 -- where no byte is bad, each is below 128 and each carriage return has a line feed next
-pub good_bytes : (at : ℕ) (s : List ℕ) → bad_byte at s ≡ none → Low s × Returned s
+pub good_bytes : (at : ℕ) (s : List ℕ) → bad_byte at s ≡ None → Low s × Returned s
 unfolding bad_byte
 good_bytes at [] h = (tt, tt)
 good_bytes at (b ∷ []) h =
-    let low = no_refusal (leb 128 b) (at_place 2 at) (cond (eqb b 13) (some (at_place 3 at)) none) h in
-    ((low.0, tt), (no_refusal (eqb b 13) (at_place 3 at) none low.1).0)
+    let low = no_refusal (leb 128 b) (at_place 2 at) (cond (eqb b 13) (Some (at_place 3 at)) None) h in
+    ((low.0, tt), (no_refusal (eqb b 13) (at_place 3 at) None low.1).0)
 good_bytes at (b ∷ (c ∷ s)) h =
     let rest = bad_byte (suc at) (c ∷ s) in
-    let low = no_refusal (leb 128 b) (at_place 2 at) (cond (eqb b 13 && not (eqb c 10)) (some (at_place 3 at)) rest) h in
+    let low = no_refusal (leb 128 b) (at_place 2 at) (cond (eqb b 13 && not (eqb c 10)) (Some (at_place 3 at)) rest) h in
     let next = no_refusal (eqb b 13 && not (eqb c 10)) (at_place 3 at) rest low.1 in
     let more = good_bytes (suc at) (c ∷ s) next.1 in
     ((low.0, more.0), (next.0, more.1))
@@ -153,7 +153,7 @@ all_line_bytes [] h k l = tt
 all_line_bytes (p ∷ ps) h k l = (line_bytes p.bytes h.0 k.0 l.0, all_line_bytes ps h.1 k.1 l.1)
 
 -- the lines of a text with no bad byte
-pub lines_clean : (text : List ℕ) → bad_byte 0 text ≡ none → Each (λ p. LineBytes p.bytes) (lines text)
+pub lines_clean : (text : List ℕ) → bad_byte 0 text ≡ None → Each (λ p. LineBytes p.bytes) (lines text)
 lines_clean text good =
     let h = good_bytes 0 text good in
     all_line_bytes (lines text) (lines_lack text) (lines_unreturned text h.1) (lines_low text h.0)
@@ -178,14 +178,14 @@ unfolding tabbed
 tabbed_clean fs h = join_with_bytes (λ b. is_line_byte b ≡ true) 9 fs (unfold is_line_byte in refl) (each_implies (λ f. each_implies field_line f) fs h)
 
 -- bytes below 128 with no carriage return among them are good
-pub all_good : (at : ℕ) (s : List ℕ) → Each (λ b. (leb 128 b ≡ false) × (eqb b 13 ≡ false)) s → bad_byte at s ≡ none
+pub all_good : (at : ℕ) (s : List ℕ) → Each (λ b. (leb 128 b ≡ false) × (eqb b 13 ≡ false)) s → bad_byte at s ≡ None
 unfolding bad_byte
 all_good at [] h = refl
 all_good at (b ∷ []) h = rw (h.0.0, h.0.1)
 all_good at (b ∷ (c ∷ s)) h = rw (h.0.0, h.0.1) (all_good (suc at) (c ∷ s) h.1)
 
 -- so a text that was written line by line has no bad byte
-pub ended_good : (at : ℕ) (ls : List (List ℕ)) → Each LineBytes ls → bad_byte at (ended ls) ≡ none
+pub ended_good : (at : ℕ) (ls : List (List ℕ)) → Each LineBytes ls → bad_byte at (ended ls) ≡ None
 unfolding ended end_line
 ended_good at ls h =
     let Good : ℕ → Type 0 = λ b. (leb 128 b ≡ false) × (eqb b 13 ≡ false) in

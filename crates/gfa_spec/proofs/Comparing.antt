@@ -4,7 +4,7 @@ use native.Mathlib.Decide.{ℕ_discrete}
 use native.Mathlib.Omega.{arith}
 use mathlib.Core.Bool.{Bool, true, false, ◌&&◌, and-false}
 use mathlib.Core.List.{List, [], ◌∷◌}
-use mathlib.Core.Option.{Option, none, some}
+use Rattle.std.specs.Prelude.{Option, None, Some}
 use mathlib.Core.Path.{◌≡◌, refl, ap}
 use lib.Dec.{eqb}
 use lib.ListN.{length, get_or}
@@ -83,20 +83,20 @@ last_says [] (y ∷ ys) h = absurd (omega arith)
 last_says (x ∷ xs) [] h = absurd (omega arith)
 last_says (x ∷ xs) (y ∷ ys) h = go (last_difference xs ys) (last_says xs ys (omega arith))
   where
-    first : (xs ≡ ys) → (b : Bool) → eqb x y ≡ b → DifferenceSays (x ∷ xs) (y ∷ ys) (last_place b none)
+    first : (xs ≡ ys) → (b : Bool) → eqb x y ≡ b → DifferenceSays (x ∷ xs) (y ∷ ys) (last_place b None)
     first e true q = cc (eqb-true x y q, e)
     first e false q = record { inside = omega arith; differ = eqb-false x y q; behind = agree_cons (agree_equal e) }
 
     go : (r : Option ℕ) → DifferenceSays xs ys r → DifferenceSays (x ∷ xs) (y ∷ ys) (last_place (eqb x y) r)
-    go none e = first e (eqb x y) refl
-    go (some i) s = record { inside = omega (arith, s.inside); differ = s.differ; behind = agree_cons s.behind }
+    go None e = first e (eqb x y) refl
+    go (Some i) s = record { inside = omega (arith, s.inside); differ = s.differ; behind = agree_cons s.behind }
 
 -- there is one such answer
 one_last : (xs ys : List ℕ) (r q : Option ℕ) → DifferenceSays xs ys r → DifferenceSays xs ys q → r ≡ q
-one_last xs ys none none s t = refl
-one_last xs ys none (some j) s t = absurd (t.differ (byte_equal j s))
-one_last xs ys (some i) none s t = absurd (s.differ (byte_equal i t))
-one_last xs ys (some i) (some j) s t = ap some (go (ℕ_discrete i j))
+one_last xs ys None None s t = refl
+one_last xs ys None (Some j) s t = absurd (t.differ (byte_equal j s))
+one_last xs ys (Some i) None s t = absurd (s.differ (byte_equal i t))
+one_last xs ys (Some i) (Some j) s t = ap Some (go (ℕ_discrete i j))
   where
     go : Dec (i ≡ j) → i ≡ j
     go (yes e) = e

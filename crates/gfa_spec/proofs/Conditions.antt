@@ -4,7 +4,7 @@ use native.Mathlib.Nat.{add-zero, zero-add}
 use native.Mathlib.Omega.{arith}
 use mathlib.Core.Bool.{true, false, not, ◌&&◌}
 use mathlib.Core.List.{List, [], ◌∷◌, ◌++◌, map, append-nil, append_assoc}
-use mathlib.Core.Option.{Option, none, some}
+use Rattle.std.specs.Prelude.{Option, None, Some}
 use mathlib.Core.Path.{◌≡◌, refl, ap}
 use borrow.Author.Tests.{leb-true, le-leb, eqb-true, eqb-false, eq-eqb, ne_eqb, not-true}
 use lib.Dec.{eqb, leb}
@@ -171,7 +171,7 @@ record RefusesFrom (at : ℕ) (s : List ℕ) (r : Refusal) : Type 0 where
   pub why : ByteRefuses s number offset
 
 -- the byte at the front
-from_front : (at : ℕ) (s : List ℕ) (r : Refusal) (n : ℕ) → BadAt s n 0 → some (at_place n at) ≡ some r → RefusesFrom at s r
+from_front : (at : ℕ) (s : List ℕ) (r : Refusal) (n : ℕ) → BadAt s n 0 → Some (at_place n at) ≡ Some r → RefusesFrom at s r
 from_front at s r n h e =
     let given : r ≡ at_place n at = cc in
     record { number = n; offset = 0; is = rw add-zero given; why = refuses_front s n h }
@@ -183,7 +183,7 @@ from_behind at b s r good w =
     record { number = w.number; offset = suc w.offset; is = rw count at w.is; why = refuses_behind b s w.number w.offset good w.why }
 
 -- a refused byte is bad, and the first that is
-byte_refused : (at : ℕ) (s : List ℕ) (r : Refusal) → bad_byte at s ≡ some r → RefusesFrom at s r
+byte_refused : (at : ℕ) (s : List ℕ) (r : Refusal) → bad_byte at s ≡ Some r → RefusesFrom at s r
 unfolding bad_byte
 byte_refused at [] r e = let z : ◌≡◌ {A = ℕ} 0 1 = cc in absurd (omega arith)
 byte_refused at (b ∷ []) r e =
@@ -200,7 +200,7 @@ byte_refused at (b ∷ (c ∷ s)) r e =
     (λ k. from_behind at b (c ∷ s) r (λ m. first_good b c s m h k) (byte_refused (suc at) (c ∷ s) r (rw (h, k) at e))))
 
 -- a bad byte at the front is refused
-front_refused : (at : ℕ) (s : List ℕ) (n : ℕ) → BadAt s n 0 → bad_byte at s ≡ some (at_place n at)
+front_refused : (at : ℕ) (s : List ℕ) (n : ℕ) → BadAt s n 0 → bad_byte at s ≡ Some (at_place n at)
 unfolding bad_byte nth
 front_refused at [] n h = absurd (bad_none h)
 front_refused at (b ∷ []) n (high k l) = rw (le-leb 128 b (omega arith))
@@ -209,7 +209,7 @@ front_refused at (b ∷ (c ∷ s)) n (high k l) = rw (le-leb 128 b (omega arith)
 front_refused at (b ∷ (c ∷ s)) n (alone k e f) = rw (e, ne_eqb c 10 f)
 
 -- the first bad byte is refused
-refused_byte : (at : ℕ) (s : List ℕ) (n k : ℕ) → ByteRefuses s n k → bad_byte at s ≡ some (at_place n (at + k))
+refused_byte : (at : ℕ) (s : List ℕ) (n k : ℕ) → ByteRefuses s n k → bad_byte at s ≡ Some (at_place n (at + k))
 unfolding bad_byte
 refused_byte at s n zero w = rw add-zero (front_refused at s n w.bad)
 refused_byte at [] n (suc k) w = absurd (bad_none w.bad)
@@ -220,19 +220,19 @@ refused_byte at (b ∷ (c ∷ s)) n (suc k) w =
     rw (h, t, refused_byte (suc at) (c ∷ s) n k (refuses_tail b (c ∷ s) n k w), count)
 
 -- a text is refused from an offset under the condition of the number only
-pub bad_refused : (text : List ℕ) (r : Refusal) → bad_byte 0 text ≡ some r → (n : ℕ) × (from : ℕ) × (r ≡ at_place n from) × ByteRefuses text n from
+pub bad_refused : (text : List ℕ) (r : Refusal) → bad_byte 0 text ≡ Some r → (n : ℕ) × (from : ℕ) × (r ≡ at_place n from) × ByteRefuses text n from
 bad_refused text r e = let w = byte_refused 0 text r e in (w.number, w.offset, rw zero-add at w.is, w.why)
 
 -- and under its condition it is refused
-pub refused_bad : (text : List ℕ) (n from : ℕ) → ByteRefuses text n from → bad_byte 0 text ≡ some (at_place n from)
+pub refused_bad : (text : List ℕ) (n from : ℕ) → ByteRefuses text n from → bad_byte 0 text ≡ Some (at_place n from)
 refused_bad text n from w = rw zero-add at (refused_byte 0 text n from w)
 
 -- where no byte is refused, that at the front is not bad
-front_good : (at : ℕ) (s : List ℕ) → bad_byte at s ≡ none → (m : ℕ) → BadAt s m 0 → ⊥
+front_good : (at : ℕ) (s : List ℕ) → bad_byte at s ≡ None → (m : ℕ) → BadAt s m 0 → ⊥
 front_good at s e m h = let z : ◌≡◌ {A = ℕ} 0 1 = cc (front_refused at s m h) in omega arith
 
 -- nor is any other
-none_refused : (at : ℕ) (s : List ℕ) → bad_byte at s ≡ none → NoneBad s
+none_refused : (at : ℕ) (s : List ℕ) → bad_byte at s ≡ None → NoneBad s
 unfolding bad_byte
 none_refused at s e n zero h = front_good at s e n h
 none_refused at [] e n (suc k) h = bad_none h
@@ -242,12 +242,12 @@ none_refused at (b ∷ (c ∷ s)) e n (suc k) h =
     none_refused (suc at) (c ∷ s) (rw (low, joined) at e) n k (bad_tail b (c ∷ s) n k h)
 
 -- and where none is bad, none is refused
-none_bad : (text : List ℕ) → NoneBad text → bad_byte 0 text ≡ none
+none_bad : (text : List ℕ) → NoneBad text → bad_byte 0 text ≡ None
 none_bad text good = go (bad_byte 0 text) refl
   where
-    go : (o : Option Refusal) → bad_byte 0 text ≡ o → o ≡ none
-    go none e = refl
-    go (some r) e = let (n, from, is, w) = bad_refused text r e in absurd (good n from w.bad)
+    go : (o : Option Refusal) → bad_byte 0 text ≡ o → o ≡ None
+    go None e = refl
+    go (Some r) e = let (n, from, is, w) = bad_refused text r e in absurd (good n from w.bad)
 
 -- ---- a call
 

@@ -3,12 +3,13 @@ use Prim.Native.Nat.{ℕ, suc, ◌+◌, ◌≤◌}
 use native.Mathlib.Omega.{arith}
 use mathlib.Core.Bool.{Bool, true, false}
 use mathlib.Core.List.{List, [], ◌∷◌, ◌++◌}
-use mathlib.Core.Option.{Option, none, some, map}
+use Rattle.std.specs.Prelude.{Option, option_map, None, Some}
 use mathlib.Core.Path.{◌≡◌, refl}
 use lib.Dec.{eqb}
 use Rattle.gfa_spec.specs.Bytes.{count}
 use Rattle.gfa_spec.specs.Runs.{bit}
 use Rattle.gfa_spec.proofs.Tests.{by_test}
+use mir.Val.{bool_byte}
 
 -- ---- bits
 
@@ -41,10 +42,18 @@ module _ {A : Type 0} (p : A → Bool) where
 
 -- ---- numbers that may be missing
 
-pub map_none : (o : Option ℕ) → map suc o ≡ none → o ≡ none
-map_none none e = refl
-map_none (some k) e = let z : ◌≡◌ {A = ℕ} 0 1 = cc in absurd (omega arith)
+pub map_none : (o : Option ℕ) → option_map suc o ≡ None → o ≡ None
+map_none None e = refl
+map_none (Some k) e = let z : ◌≡◌ {A = ℕ} 0 1 = cc in absurd (omega arith)
 
-pub map_some : (o : Option ℕ) (k : ℕ) → map suc o ≡ some k → (j : ℕ) × (o ≡ some j) × (k ≡ suc j)
-map_some none k e = let z : ◌≡◌ {A = ℕ} 0 1 = cc in absurd (omega arith)
-map_some (some j) k e = (j, refl, cc)
+pub map_some : (o : Option ℕ) (k : ℕ) → option_map suc o ≡ Some k → (j : ℕ) × (o ≡ Some j) × (k ≡ suc j)
+map_some None k e = let z : ◌≡◌ {A = ℕ} 0 1 = cc in absurd (omega arith)
+map_some (Some j) k e = (j, refl, cc)
+
+-- ---- a test as a number
+
+-- as the code has it
+pub bit_byte : (b : Bool) {x : ℕ} → x ≡ bool_byte b → (x ≡ bit b) × (x ≤ 1)
+unfolding bit
+bit_byte true e = (e, omega arith)
+bit_byte false e = (e, omega arith)

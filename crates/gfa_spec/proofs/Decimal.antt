@@ -3,7 +3,7 @@ use Prim.Native.Nat.{ℕ, zero, suc, ◌+◌, ◌/◌, ◌%◌, ◌≤◌, ◌<�
 use native.Mathlib.Omega.{arith}
 use mathlib.Core.Bool.{true, false}
 use mathlib.Core.List.{List, [], ◌∷◌}
-use mathlib.Core.Option.{some}
+use Rattle.std.specs.Prelude.{Some}
 use mathlib.Core.Path.{◌≡◌, refl, ap, ◌∙◌}
 use lib.Dec.{leb, ltb}
 use borrow.Author.Tests.{ltb-true, ltb-false, leb-true, le-leb, ne_eqb}
@@ -72,7 +72,7 @@ unsigned_digits (b ∷ bs) h =
     rw (ne_eqb b 43 (λ e. omega arith))
 
 -- a number within 64 bits reads as itself
-pub number_decimal : (n : ℕ) → n ≤ largest64 → number_of (decimal n) ≡ some n
+pub number_decimal : (n : ℕ) → n ≤ largest64 → number_of (decimal n) ≡ Some n
 unfolding number_of is_numeral
 number_decimal n h =
     rw (unsigned_digits (decimal n) (decimal_digits n), decimal_some n, decimal_digits n, decimal_value n, le-leb n largest64 h)

@@ -5,7 +5,9 @@ use native.Mathlib.Omega.{arith}
 use mathlib.Core.Bool.{Bool, true, false, true≢false, false≢true, and-eq-true_iff}
 use mathlib.Core.List.{List, [], ◌∷◌, map, tail, append-nil}
 use mathlib.Core.Logic.{◌↔◌}
-use mathlib.Core.Option.{Option, none, some, Option-elim, none-ne-some, some-ne-none}
+use Rattle.std.specs.Prelude.{Option, None, Some}
+use Rattle.gfa_spec.specs.Options.{map_or}
+use Rattle.gfa_spec.proofs.Options.{None-ne-Some, Some-ne-None}
 use mathlib.Core.Path.{◌≡◌, refl, sym, ap, ◌∙◌}
 use lib.Dec.{eqb, ltb}
 use lib.ListN.{length, length-map}
@@ -54,7 +56,7 @@ more_than n es f fs l h = ne_eqb (suc (length fs)) n (λ e. omega (arith, begins
 
 -- an S line is read as the record of its columns, or refused as 6
 s_reads : (ids : List (List ℕ)) (line f : Part) (fs : List Part) → columns line.bytes ≡ map bytes_of (f ∷ fs) → begins (expressions S) (map bytes_of fs) ≡ true
-    → map_read stated (parse_s ids line (f ∷ fs)) ≡ expected ids (some (record_of S (map bytes_of (f ∷ fs))))
+    → map_read stated (parse_s ids line (f ∷ fs)) ≡ expected ids (Some (record_of S (map bytes_of (f ∷ fs))))
 unfolding map_read parse_s expected known name_in any record_of stated then expressions
 s_reads ids line f fs c h =
     rw (enough 3 (expressions S) f fs (omega arith) h, field_column 1 (f ∷ fs), field_column 2 (f ∷ fs))
@@ -70,7 +72,7 @@ orientation_reads n f h =
 
 -- an L line is read as the record of its columns
 l_reads : (ids : List (List ℕ)) (line f : Part) (fs : List Part) → columns line.bytes ≡ map bytes_of (f ∷ fs) → begins (expressions L) (map bytes_of fs) ≡ true
-    → map_read stated (parse_l line (f ∷ fs)) ≡ expected ids (some (record_of L (map bytes_of (f ∷ fs))))
+    → map_read stated (parse_l line (f ∷ fs)) ≡ expected ids (Some (record_of L (map bytes_of (f ∷ fs))))
 unfolding map_read parse_l expected known name_in any record_of stated then expressions
 l_reads ids line f fs c h =
     let cs : List (List ℕ) = map bytes_of (f ∷ fs) in
@@ -90,7 +92,7 @@ l_reads ids line f fs c h =
 -- a P line is read as the record of its columns, where no segment name holds a comma
 p_reads : (ids : List (List ℕ)) (f : Part) (fs : List Part) → begins (expressions P) (map bytes_of fs) ≡ true
     → no_comma_in (record_of P (map bytes_of (f ∷ fs))) ≡ true
-    → map_read stated (parse_p (f ∷ fs)) ≡ expected ids (some (record_of P (map bytes_of (f ∷ fs))))
+    → map_read stated (parse_p (f ∷ fs)) ≡ expected ids (Some (record_of P (map bytes_of (f ∷ fs))))
 unfolding map_read parse_p expected known name_in any record_of stated path_record then expressions no_comma_in
 p_reads ids f fs h k =
     let list : Part = nth 2 (f ∷ fs) nowhere in
@@ -101,7 +103,7 @@ p_reads ids f fs h k =
 
 -- a W line is read as the record of its columns
 w_reads : (ids : List (List ℕ)) (f : Part) (fs : List Part) → begins (expressions W) (map bytes_of fs) ≡ true
-    → map_read stated (parse_w (f ∷ fs)) ≡ expected ids (some (record_of W (map bytes_of (f ∷ fs))))
+    → map_read stated (parse_w (f ∷ fs)) ≡ expected ids (Some (record_of W (map bytes_of (f ∷ fs))))
 unfolding map_read parse_w expected known name_in any record_of stated path_record then expressions
 w_reads ids f fs h =
     let steps : Part = nth 6 (f ∷ fs) nowhere in
@@ -120,18 +122,18 @@ letter_of P = bytes "P"
 letter_of W = bytes "W"
 
 -- the sort that a letter passed for, if it is that sort's
-same_letter : (f : List ℕ) (s t : Sort) → same f (letter_of s) ≡ true → some s ≡ some t → f ≡ letter_of t
+same_letter : (f : List ℕ) (s t : Sort) → same f (letter_of s) ≡ true → Some s ≡ Some t → f ≡ letter_of t
 same_letter f s t h e = let k : s ≡ t = cc in same_equal f (letter_of s) h ∙ ap letter_of k
 
 -- only its letter names a sort
-pub sort_letter : (f : List ℕ) (s : Sort) → sort_of f ≡ some s → f ≡ letter_of s
+pub sort_letter : (f : List ℕ) (s : Sort) → sort_of f ≡ Some s → f ≡ letter_of s
 unfolding sort_of letter_of
 sort_letter f s h =
     by_test (same f (bytes "S")) (λ e. same_letter f S s e (rw e at h)) λ e.
     by_test (same f (bytes "L")) (λ d. same_letter f L s d (rw (e, d) at h)) λ d.
     by_test (same f (bytes "P")) (λ c. same_letter f P s c (rw (e, d, c) at h)) λ c.
     by_test (same f (bytes "W")) (λ b. same_letter f W s b (rw (e, d, c, b) at h)) λ b.
-    absurd (none-ne-some s (rw (e, d, c, b) at h))
+    absurd (None-ne-Some s (rw (e, d, c, b) at h))
 
 -- the reader at a sort
 unfoldable pub parse_as : Sort → List (List ℕ) → Part → List Part → Read Entry
@@ -159,7 +161,7 @@ begins_none W = refl
 -- a line is read as the record of its columns
 sort_reads : (s : Sort) (ids : List (List ℕ)) (line : Part) (fs : List Part) → columns line.bytes ≡ map bytes_of fs
     → begins (expressions s) (tail (map bytes_of fs)) ≡ true → no_comma_in (record_of s (map bytes_of fs)) ≡ true
-    → map_read stated (parse_as s ids line fs) ≡ expected ids (some (record_of s (map bytes_of fs)))
+    → map_read stated (parse_as s ids line fs) ≡ expected ids (Some (record_of s (map bytes_of fs)))
 unfolding parse_as
 sort_reads s ids line [] c h k = absurd (true≢false (sym h ∙ begins_none s))
 sort_reads S ids line (f ∷ fs) c h k = s_reads ids line f fs c h
@@ -204,7 +206,7 @@ unfolding fields columns
 fields_columns line = split_between 9 line.at line.bytes
 
 -- a line of a sort is parsed as that sort
-pub line_parse : (s : Sort) (ids : List (List ℕ)) (line : Part) → line_sort line.bytes ≡ some s → parse_line ids line ≡ parse_as s ids line (fields line)
+pub line_parse : (s : Sort) (ids : List (List ℕ)) (line : Part) → line_sort line.bytes ≡ Some s → parse_line ids line ≡ parse_as s ids line (fields line)
 unfolding parse_line line_sort
 line_parse s ids line e =
     let letter : column 1 (columns line.bytes) ≡ letter_of s = sort_letter (column 1 (columns line.bytes)) s e in
@@ -212,36 +214,36 @@ line_parse s ids line e =
     rw (starts.0, starts.1) (sort_parse s ids line (fields line) (field_column 0 (fields line) ∙ ap (column 1) (fields_columns line) ∙ letter))
 
 -- and if it begins as it must, read as the record of its columns
-pub line_reads : (s : Sort) (ids : List (List ℕ)) (line : Part) → line_sort line.bytes ≡ some s
+pub line_reads : (s : Sort) (ids : List (List ℕ)) (line : Part) → line_sort line.bytes ≡ Some s
     → begins (expressions s) (tail (columns line.bytes)) ≡ true → no_comma_in (record_of s (columns line.bytes)) ≡ true
-    → map_read stated (parse_line ids line) ≡ expected ids (some (record_of s (columns line.bytes)))
+    → map_read stated (parse_line ids line) ≡ expected ids (Some (record_of s (columns line.bytes)))
 line_reads s ids line e h k =
     let c = fields_columns line in
     rw (line_parse s ids line e) (rw c at (sort_reads s ids line (fields line) (sym c) (rw c h) (rw c k)))
 
 -- a line of no sort is not allowed
-none_allows : (line : List ℕ) → line_sort line ≡ none → allows_untagged line ≡ false
-unfolding allows_untagged Option-elim
+none_allows : (line : List ℕ) → line_sort line ≡ None → allows_untagged line ≡ false
+unfolding allows_untagged map_or
 none_allows line e = rw e
 
 -- and states nothing
-pub none_states : (line : List ℕ) → line_sort line ≡ none → states line ≡ none
-unfolding states Option-elim
+pub none_states : (line : List ℕ) → line_sort line ≡ None → states line ≡ None
+unfolding states map_or
 none_states line e = rw e
 
 -- a line of a sort that is allowed begins as it must
-pub allows_begins : (s : Sort) (line : List ℕ) → line_sort line ≡ some s → allows_untagged line ≡ true → begins (expressions s) (tail (columns line)) ≡ true
-unfolding allows_untagged Option-elim
+pub allows_begins : (s : Sort) (line : List ℕ) → line_sort line ≡ Some s → allows_untagged line ≡ true → begins (expressions s) (tail (columns line)) ≡ true
+unfolding allows_untagged map_or
 allows_begins s line e h = rw e at h
 
 -- and states the record of its columns
-pub sort_states : (s : Sort) (line : List ℕ) → line_sort line ≡ some s → allows_untagged line ≡ true → states line ≡ some (record_of s (columns line))
-unfolding states Option-elim
+pub sort_states : (s : Sort) (line : List ℕ) → line_sort line ≡ Some s → allows_untagged line ≡ true → states line ≡ Some (record_of s (columns line))
+unfolding states map_or
 sort_states s line e h = rw (e, h)
 
 -- its segment names are those of the record
-states_comma : (r : Record) (line : List ℕ) → states line ≡ some r → no_comma line ≡ no_comma_in r
-unfolding no_comma Option-elim
+states_comma : (r : Record) (line : List ℕ) → states line ≡ Some r → no_comma line ≡ no_comma_in r
+unfolding no_comma map_or
 states_comma r line e = rw e
 
 -- What is allowed is allowed whatever its tags are.
@@ -249,10 +251,10 @@ pub allowed_untagged : (line : List ℕ) → allows line ≡ true → allows_unt
 unfolding allows allows_untagged
 allowed_untagged line = by_sort (line_sort line)
   where
-    by_sort : (o : Option Sort) → Option-elim o false (λ s. fits (expressions s) (tail (columns line))) ≡ true
-        → Option-elim o false (λ s. begins (expressions s) (tail (columns line))) ≡ true
-    by_sort none = unfold Option-elim in λ h. h
-    by_sort (some s) = unfold Option-elim fits in λ h. (both {a = begins (expressions s) (tail (columns line))} h).0
+    by_sort : (o : Option Sort) → map_or o false (λ s. fits (expressions s) (tail (columns line))) ≡ true
+        → map_or o false (λ s. begins (expressions s) (tail (columns line))) ≡ true
+    by_sort None = unfold map_or in λ h. h
+    by_sort (Some s) = unfold map_or fits in λ h. (both {a = begins (expressions s) (tail (columns line))} h).0
 
 -- The reader accepts every line that the specification allows, no segment name holding a comma, unless a segment's name was read before.
 -- It reads the record that the line states. Tags play no part in this: they are taken as they stand, allowed or not.
@@ -261,37 +263,37 @@ pub reads : (ids : List (List ℕ)) (line : Part) → allows_untagged line.bytes
 reads ids line h k = by_sort (line_sort line.bytes) refl
   where
     by_sort : (o : Option Sort) → line_sort line.bytes ≡ o → map_read stated (parse_line ids line) ≡ expected ids (states line.bytes)
-    by_sort none e = absurd (true≢false (sym h ∙ none_allows line.bytes e))
-    by_sort (some s) e =
+    by_sort None e = absurd (true≢false (sym h ∙ none_allows line.bytes e))
+    by_sort (Some s) e =
         let r = sort_states s line.bytes e h in
         rw r (line_reads s ids line e (allows_begins s line.bytes e h) (sym (states_comma (record_of s (columns line.bytes)) line.bytes r) ∙ k))
 
 -- ---- the first broken column
 
 -- tags are broken where they do not match
-broken_tags : (k : ℕ) (cs : List (List ℕ)) → (broken_from k [] cs ≡ none) ↔ (fits [] cs ≡ true)
+broken_tags : (k : ℕ) (cs : List (List ℕ)) → (broken_from k [] cs ≡ None) ↔ (fits [] cs ≡ true)
 unfolding broken_from fits begins all
 broken_tags k [] = (λ h. refl, λ h. refl)
 broken_tags k (c ∷ cs) =
     by_test (is_tag c)
     (λ e. rw e (broken_tags (suc k) cs))
-    (λ e. rw e (λ h. absurd (some-ne-none k h), λ h. absurd (false≢true h)))
+    (λ e. rw e (λ h. absurd (Some-ne-None k h), λ h. absurd (false≢true h)))
 
 -- and so is any column
-broken_fits : (k : ℕ) (es : List (List ℕ → Bool)) (cs : List (List ℕ)) → (broken_from k es cs ≡ none) ↔ (fits es cs ≡ true)
+broken_fits : (k : ℕ) (es : List (List ℕ → Bool)) (cs : List (List ℕ)) → (broken_from k es cs ≡ None) ↔ (fits es cs ≡ true)
 unfolding broken_from fits begins
 broken_fits k [] cs = broken_tags k cs
-broken_fits k (e ∷ es) [] = (λ h. absurd (some-ne-none k h), λ h. absurd (false≢true h))
+broken_fits k (e ∷ es) [] = (λ h. absurd (Some-ne-None k h), λ h. absurd (false≢true h))
 broken_fits k (e ∷ es) (c ∷ cs) =
     by_test (e c)
     (λ t. rw t (broken_fits (suc k) es cs))
-    (λ t. rw t (λ h. absurd (some-ne-none k h), λ h. absurd (false≢true h)))
+    (λ t. rw t (λ h. absurd (Some-ne-None k h), λ h. absurd (false≢true h)))
 
 -- No column is broken in the lines that are allowed, and in no others.
-pub broken_allows : (line : List ℕ) → (first_broken line ≡ none) ↔ (allows line ≡ true)
+pub broken_allows : (line : List ℕ) → (first_broken line ≡ None) ↔ (allows line ≡ true)
 unfolding first_broken allows
 broken_allows line = by_sort (line_sort line)
   where
-    by_sort : (o : Option Sort) → (Option-elim o (some 1) (λ s. broken_from 2 (expressions s) (tail (columns line))) ≡ none) ↔ (Option-elim o false (λ s. fits (expressions s) (tail (columns line))) ≡ true)
-    by_sort none = unfold Option-elim in (λ h. absurd (some-ne-none 1 h), λ h. absurd (false≢true h))
-    by_sort (some s) = unfold Option-elim in broken_fits 2 (expressions s) (tail (columns line))
+    by_sort : (o : Option Sort) → (map_or o (Some 1) (λ s. broken_from 2 (expressions s) (tail (columns line))) ≡ None) ↔ (map_or o false (λ s. fits (expressions s) (tail (columns line))) ≡ true)
+    by_sort None = unfold map_or in (λ h. absurd (Some-ne-None 1 h), λ h. absurd (false≢true h))
+    by_sort (Some s) = unfold map_or in broken_fits 2 (expressions s) (tail (columns line))

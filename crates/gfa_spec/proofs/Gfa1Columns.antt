@@ -3,7 +3,9 @@ use Prim.Native.Nat.{ℕ, suc, zero, ◌<◌}
 use native.Mathlib.Omega.{arith}
 use mathlib.Core.Bool.{true, false≢true, true≢false}
 use mathlib.Core.List.{List, [], ◌∷◌, ◌++◌, map, tail, drop_last}
-use mathlib.Core.Option.{Option, none, some, Option-elim, none-ne-some}
+use Rattle.std.specs.Prelude.{Option, None, Some}
+use Rattle.gfa_spec.specs.Options.{map_or}
+use Rattle.gfa_spec.proofs.Options.{None-ne-Some}
 use mathlib.Core.Path.{◌≡◌, refl, sym, ap, ◌∙◌}
 use lib.ListN.{length, drop}
 use Rattle.gfa_spec.specs.Bytes.{bytes, same, all, nth, last_byte, join_with}
@@ -116,17 +118,17 @@ sort_columns W (c ∷ cs) e h = w_columns c cs e h
 -- ---- a line
 
 -- a line of a sort that states something has the required columns of the sort
-states_begins : (s : Sort) (line : List ℕ) (r : Record) → line_sort line ≡ some s → states line ≡ some r → allows_untagged line ≡ true
-unfolding states Option-elim
-states_begins s line r e h = by_test (allows_untagged line) (λ t. t) (λ t. absurd (none-ne-some r (rw (e, t) at h)))
+states_begins : (s : Sort) (line : List ℕ) (r : Record) → line_sort line ≡ Some s → states line ≡ Some r → allows_untagged line ≡ true
+unfolding states map_or
+states_begins s line r e h = by_test (allows_untagged line) (λ t. t) (λ t. absurd (None-ne-Some r (rw (e, t) at h)))
 
 -- A line's columns are those of the record that it states: the record leaves none out.
-pub states_columns : (line : List ℕ) (r : Record) → states line ≡ some r → columns_of r ≡ columns line
+pub states_columns : (line : List ℕ) (r : Record) → states line ≡ Some r → columns_of r ≡ columns line
 states_columns line r h = by_sort (line_sort line) refl
   where
     by_sort : (o : Option Sort) → line_sort line ≡ o → columns_of r ≡ columns line
-    by_sort none e = absurd (none-ne-some r (sym (none_states line e) ∙ h))
-    by_sort (some s) e =
+    by_sort None e = absurd (None-ne-Some r (sym (none_states line e) ∙ h))
+    by_sort (Some s) e =
         let a : allows_untagged line ≡ true = states_begins s line r e h in
         let k : r ≡ record_of s (columns line) = cc (h, sort_states s line e a) in
         rw k (sort_columns s (columns line) (sort_letter (column 1 (columns line)) s (unfold line_sort in e)) (allows_begins s line e a))

@@ -3,7 +3,8 @@ use Prim.Native.Nat.{ℕ}
 use Prim.Native.String.{String}
 use mathlib.Core.Bool.{Bool, true, false, not, ◌&&◌}
 use mathlib.Core.List.{List, [], ◌∷◌, ◌++◌, map}
-use mathlib.Core.Option.{Option, none, some, Option-elim}
+use Rattle.std.specs.Prelude.{Option, None, Some}
+use Rattle.gfa_spec.specs.Options.{map_or}
 use lib.Dec.{T, eqb}
 use Rattle.gfa_spec.specs.Bytes.{bytes, same, all, join}
 use Rattle.gfa_spec.specs.Reading.{Read, refused, accepted, parse_line, map_read}
@@ -21,12 +22,12 @@ visit_texts v = v.name ∷ (v.orientation ∷ []) ∷ []
 
 -- the texts of a record, in order
 record_texts : Option Record → List (List ℕ)
-record_texts none = []
-record_texts (some (Record.segment name sequence tags)) = name ∷ sequence ∷ tags
-record_texts (some (Record.link from from_orientation to to_orientation overlap tags)) =
+record_texts None = []
+record_texts (Some (Record.segment name sequence tags)) = name ∷ sequence ∷ tags
+record_texts (Some (Record.link from from_orientation to to_orientation overlap tags)) =
     from ∷ (from_orientation ∷ []) ∷ to ∷ (to_orientation ∷ []) ∷ overlap ∷ tags
-record_texts (some (Record.path name visits overlaps tags)) = name ∷ (join (map visit_texts visits) ++ (overlaps ∷ tags))
-record_texts (some (Record.walk sample haplotype sequence start end steps visits tags)) =
+record_texts (Some (Record.path name visits overlaps tags)) = name ∷ (join (map visit_texts visits) ++ (overlaps ∷ tags))
+record_texts (Some (Record.walk sample haplotype sequence start end steps visits tags)) =
     sample ∷ haplotype ∷ sequence ∷ start ∷ end ∷ steps ∷ (join (map visit_texts visits) ++ tags)
 
 -- equality of lists of texts
@@ -38,10 +39,10 @@ same_all (x ∷ xs) (y ∷ ys) = same x y && same_all xs ys
 
 -- equality of column numbers
 same_number : Option ℕ → Option ℕ → Bool
-same_number none none = true
-same_number none (some n) = false
-same_number (some m) none = false
-same_number (some m) (some n) = eqb m n
+same_number None None = true
+same_number None (Some n) = false
+same_number (Some m) None = false
+same_number (Some m) (Some n) = eqb m n
 
 -- did the reader read the record of these texts?
 reads_texts : List (List ℕ) → Read (Option Record) → Bool
@@ -55,11 +56,11 @@ refuses_as k (accepted r) = false
 
 -- allowed by 1.0 and 1.1, no segment name holding a comma
 both : String → Bool
-both l = allows10 (bytes l) && no_comma (bytes l) && same_number (first_broken (bytes l)) none
+both l = allows10 (bytes l) && no_comma (bytes l) && same_number (first_broken (bytes l)) None
 
 -- allowed by 1.1 alone
 newer : String → Bool
-newer l = allows (bytes l) && not (allows10 (bytes l)) && no_comma (bytes l) && same_number (first_broken (bytes l)) none
+newer l = allows (bytes l) && not (allows10 (bytes l)) && no_comma (bytes l) && same_number (first_broken (bytes l)) None
 
 -- allowed, with a comma in a segment name
 comma : String → Bool
@@ -67,7 +68,7 @@ comma l = allows (bytes l) && not (no_comma (bytes l))
 
 -- not allowed, and the first column that is missing or breaks its expression
 broken : ℕ → String → Bool
-broken k l = not (allows (bytes l)) && same_number (first_broken (bytes l)) (some k)
+broken k l = not (allows (bytes l)) && same_number (first_broken (bytes l)) (Some k)
 
 -- allowed, and states the record of these texts
 says : String → List String → Bool
@@ -205,5 +206,5 @@ table =
 
 -- Every row holds.
 pub table_holds : T (all (λ b. b) table)
-unfolding table both newer comma broken says read stops answers spells reading_of reads_texts refuses_as visit_texts record_texts same_all same_number in_class matches is_name is_sign ends_item holds_end is_segment_name is_sequence is_orientation is_index is_position is_cigar is_overlap is_character after_sign is_integer are_digits are_scaled is_float is_printed is_hex are_numbers is_array is_typed is_tag are_overlaps items is_item are_items starts_step walk_steps is_walk_step is_walk columns column sort_of line_sort expressions begins fits Option-elim allows_untagged allows allows10 broken_from first_broken item_visit walk_visit record_of states lacks_comma no_comma_in no_comma visit_of path_record stated computing
+unfolding table both newer comma broken says read stops answers spells reading_of reads_texts refuses_as visit_texts record_texts same_all same_number in_class matches is_name is_sign ends_item holds_end is_segment_name is_sequence is_orientation is_index is_position is_cigar is_overlap is_character after_sign is_integer are_digits are_scaled is_float is_printed is_hex are_numbers is_array is_typed is_tag are_overlaps items is_item are_items starts_step walk_steps is_walk_step is_walk columns column sort_of line_sort expressions begins fits map_or allows_untagged allows allows10 broken_from first_broken item_visit walk_visit record_of states lacks_comma no_comma_in no_comma visit_of path_record stated computing
 table_holds = tt

@@ -3,7 +3,8 @@ use Prim.Native.Nat.{ℕ, suc, ◌≤◌, ◌<◌}
 use native.Mathlib.Omega.{arith}
 use mathlib.Core.Bool.{false}
 use mathlib.Core.List.{List, [], ◌∷◌, ◌++◌, map, append-nil, map-append}
-use mathlib.Core.Option.{some, Option-elim}
+use Rattle.std.specs.Prelude.{Some}
+use Rattle.gfa_spec.specs.Options.{map_or}
 use mathlib.Core.Path.{◌≡◌, refl, sym, ap, ◌∙◌}
 use borrow.Author.Tests.{eq-eqb, ne_eqb, le-ltb}
 use lib.Dec.{eqb, ltb}
@@ -44,7 +45,7 @@ enough_front n fs ts l = (le-ltb (length fs) n l, le-ltb (length (fs ++ ts)) n (
 -- an S line
 s_alike : (ids : List (List ℕ)) (l m : Part) (fs ts : List Part) → 3 ≤ length fs
     → map_read stated_untagged (parse_s ids l (fs ++ ts)) ≡ map_read stated_untagged (parse_s ids m fs)
-unfolding map_read parse_s stated_untagged stated untagged Option-elim
+unfolding map_read parse_s stated_untagged stated untagged map_or
 s_alike ids l m fs ts h =
     let long = enough_front 3 fs ts h in
     rw (long.0, long.1, field_front 1 fs ts (omega arith), field_front 2 fs ts (omega arith))
@@ -53,7 +54,7 @@ s_alike ids l m fs ts h =
 -- an L line
 l_alike : (l m : Part) (fs ts : List Part) → columns l.bytes ≡ map bytes_of (fs ++ ts) → columns m.bytes ≡ map bytes_of fs → 6 ≤ length fs
     → map_read stated_untagged (parse_l l (fs ++ ts)) ≡ map_read stated_untagged (parse_l m fs)
-unfolding map_read parse_l stated_untagged stated untagged Option-elim then
+unfolding map_read parse_l stated_untagged stated untagged map_or then
 l_alike l m fs ts c d h =
     let long = enough_front 6 fs ts h in
     rw (
@@ -69,7 +70,7 @@ l_alike l m fs ts c d h =
 
 -- a P line
 p_alike : (fs ts : List Part) → 4 ≤ length fs → map_read stated_untagged (parse_p (fs ++ ts)) ≡ map_read stated_untagged (parse_p fs)
-unfolding map_read parse_p stated_untagged stated path_record untagged Option-elim then
+unfolding map_read parse_p stated_untagged stated path_record untagged map_or then
 p_alike fs ts h =
     let long = enough_front 3 fs ts (omega arith) in
     let a = ne_eqb (length fs) 3 (λ e. omega arith) in
@@ -80,7 +81,7 @@ p_alike fs ts h =
 
 -- a W line
 w_alike : (fs ts : List Part) → 7 ≤ length fs → map_read stated_untagged (parse_w (fs ++ ts)) ≡ map_read stated_untagged (parse_w fs)
-unfolding map_read parse_w stated_untagged stated path_record untagged Option-elim then
+unfolding map_read parse_w stated_untagged stated path_record untagged map_or then
 w_alike fs ts h =
     let long = enough_front 7 fs ts h in
     rw (long.0, long.1, nth_front 6 fs ts nowhere (omega arith))
@@ -130,7 +131,7 @@ front_sort x y =
 
 -- What is read of a line that has all the required columns of its sort is the same whatever tags follow: it is refused with the same
 -- number, or the same record is read but for the tags. The line need not be allowed.
-pub tags_unread : (s : Sort) (ids : List (List ℕ)) (at : ℕ) (x tags : List ℕ) → line_sort x ≡ some s → length (expressions s) < length (columns x)
+pub tags_unread : (s : Sort) (ids : List (List ℕ)) (at : ℕ) (x tags : List ℕ) → line_sort x ≡ Some s → length (expressions s) < length (columns x)
     → map_read stated_untagged (parse_line ids (record { at = at; bytes = x ++ (9 ∷ tags) })) ≡ map_read stated_untagged (parse_line ids (record { at = at; bytes = x }))
 unfolding fields
 tags_unread s ids at x tags h n =

@@ -2,7 +2,9 @@
 use Prim.Native.Nat.{ℕ, suc, ◌+◌, ◌*◌, ◌≤◌}
 use mathlib.Core.Bool.{true, false, cond, ◌&&◌}
 use mathlib.Core.List.{List, [], ◌∷◌, ◌++◌, map}
-use mathlib.Core.Option.{Option, none, some, Option-elim, some-ne-none}
+use Rattle.std.specs.Prelude.{Option, None, Some}
+use Rattle.gfa_spec.specs.Options.{map_or}
+use Rattle.gfa_spec.proofs.Options.{Some-ne-None}
 use mathlib.Core.Path.{◌≡◌, refl, sym, ap, ◌∙◌}
 use lib.ListN.{length}
 use borrow.Author.Tests.{not-true}
@@ -18,24 +20,24 @@ use Rattle.gfa_spec.proofs.Admission.{entries_input}
 use Rattle.gfa_spec.proofs.Answers.{map_read_accepted}
 
 -- a letter of no sort is none of the four
-no_sort : (f : List ℕ) → sort_of f ≡ none → (same f (bytes "S") ≡ false) × (same f (bytes "L") ≡ false) × (same f (bytes "P") ≡ false) × (same f (bytes "W") ≡ false)
+no_sort : (f : List ℕ) → sort_of f ≡ None → (same f (bytes "S") ≡ false) × (same f (bytes "L") ≡ false) × (same f (bytes "P") ≡ false) × (same f (bytes "W") ≡ false)
 unfolding sort_of
 no_sort f h =
-    by_test (same f (bytes "S")) (λ e. absurd (some-ne-none S (rw e at h))) λ e.
-    by_test (same f (bytes "L")) (λ d. absurd (some-ne-none L (rw (e, d) at h))) λ d.
-    by_test (same f (bytes "P")) (λ c. absurd (some-ne-none P (rw (e, d, c) at h))) λ c.
-    by_test (same f (bytes "W")) (λ b. absurd (some-ne-none W (rw (e, d, c, b) at h))) λ b.
+    by_test (same f (bytes "S")) (λ e. absurd (Some-ne-None S (rw e at h))) λ e.
+    by_test (same f (bytes "L")) (λ d. absurd (Some-ne-None L (rw (e, d) at h))) λ d.
+    by_test (same f (bytes "P")) (λ c. absurd (Some-ne-None P (rw (e, d, c) at h))) λ c.
+    by_test (same f (bytes "W")) (λ b. absurd (Some-ne-None W (rw (e, d, c, b) at h))) λ b.
     (e, d, c, b)
 
 -- fields of no sort are accepted, and no record is read of them
-none_fields : (ids : List (List ℕ)) (line : Part) (fs : List Part) → sort_of (field 0 fs) ≡ none → map_read stated (parse_fields ids line fs) ≡ accepted none
+none_fields : (ids : List (List ℕ)) (line : Part) (fs : List Part) → sort_of (field 0 fs) ≡ None → map_read stated (parse_fields ids line fs) ≡ accepted None
 unfolding parse_fields map_read stated bytes
 none_fields ids line fs h =
     let k = no_sort (field 0 fs) h in
     by_test (same (field 0 fs) (bytes "H")) (λ e. rw e) (λ e. rw (e, k.0, k.1, k.2, k.3))
 
 -- a line of no sort is accepted, and no record is read of it
-none_reads : (ids : List (List ℕ)) (line : Part) → line_sort line.bytes ≡ none → map_read stated (parse_line ids line) ≡ accepted none
+none_reads : (ids : List (List ℕ)) (line : Part) → line_sort line.bytes ≡ None → map_read stated (parse_line ids line) ≡ accepted None
 unfolding parse_line map_read stated line_sort
 none_reads ids line h =
     by_test (is_empty line.bytes) (λ e. rw e) λ e.
@@ -43,8 +45,8 @@ none_reads ids line h =
     rw (e, d) (none_fields ids line (fields line) (rw (field_column 0 (fields line), fields_columns line) h))
 
 -- a line of a sort conforms where it is allowed, no segment name holding a comma
-sort_conforms : (s : Sort) (line : List ℕ) → line_sort line ≡ some s → conforms line ≡ (allows_untagged line && no_comma line)
-unfolding conforms Option-elim
+sort_conforms : (s : Sort) (line : List ℕ) → line_sort line ≡ Some s → conforms line ≡ (allows_untagged line && no_comma line)
+unfolding conforms map_or
 sort_conforms s line e = rw e
 
 -- The reader reads of every line that conforms what the specification states.
@@ -52,8 +54,8 @@ pub conforms_reads : (ids : List (List ℕ)) (line : Part) → conforms line.byt
 conforms_reads ids line h = by_sort (line_sort line.bytes) refl
   where
     by_sort : (o : Option Sort) → line_sort line.bytes ≡ o → map_read stated (parse_line ids line) ≡ expected ids (states line.bytes)
-    by_sort none e = unfold expected known name_in any in rw (none_states line.bytes e) (none_reads ids line e)
-    by_sort (some s) e =
+    by_sort None e = unfold expected known name_in any in rw (none_states line.bytes e) (none_reads ids line e)
+    by_sort (Some s) e =
         let k : (allows_untagged line.bytes ≡ true) × (no_comma line.bytes ≡ true) = both (sym (sort_conforms s line.bytes e) ∙ h) in
         reads ids line k.0 k.1
 
@@ -83,7 +85,7 @@ text_agrees text es h = lines_agree [] (lines text) es (parse_reads 1 [] (lines 
 -- ---- acceptance
 
 -- a path names no segment
-path_name_none : (k : Kind) (cs : List (List ℕ)) (visits : List Visit) → name_in (some (path_record k cs visits)) ≡ []
+path_name_none : (k : Kind) (cs : List (List ℕ)) (visits : List Visit) → name_in (Some (path_record k cs visits)) ≡ []
 unfolding name_in path_record
 path_name_none Kind.P cs visits = refl
 path_name_none Kind.W cs visits = refl
@@ -130,7 +132,7 @@ unfolding parse
 text_accepted text h k = lines_accepted 1 [] (lines text) h k
 
 -- Such a text, within the limits of a call, is admitted, and its entries state what its lines state.
-pub text_admitted : (text : List ℕ) (work : ℕ) → length text ≤ 1048576 → bad_byte 0 text ≡ none → 4 * length text + 64 ≤ work
+pub text_admitted : (text : List ℕ) (work : ℕ) → length text ≤ 1048576 → bad_byte 0 text ≡ None → 4 * length text + 64 ≤ work
     → all (λ l. conforms l.bytes) (lines text) ≡ true → fresh [] (lines text) ≡ true
     → (es : List Entry) × (input text work ≡ entries es) × Agree (lines text) es
 text_admitted text work short clean enough h k =

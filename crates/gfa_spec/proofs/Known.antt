@@ -3,7 +3,8 @@ use Prim.Native.Nat.{ℕ}
 use native.Mathlib.Omega.{arith}
 use mathlib.Core.Bool.{true, false}
 use mathlib.Core.List.{List, [], ◌∷◌}
-use mathlib.Core.Option.{Option, none, some, Option-elim}
+use Rattle.std.specs.Prelude.{Option, None, Some}
+use Rattle.gfa_spec.specs.Options.{map_or}
 use mathlib.Core.Path.{◌≡◌, refl}
 use Rattle.gfa_spec.specs.Bytes.{same, star, all, Each}
 use Rattle.gfa_spec.specs.Reading.{Step, Segment, Path, Entry}
@@ -16,17 +17,17 @@ use Rattle.gfa_spec.proofs.Tests.{by_test}
 -- A name finds a sequence other than `*`.
 pub record Known (ss : List Segment) (name : List ℕ) : Type 0 where
   pub sequence : List ℕ
-  pub found : sequence_of ss name ≡ some sequence
+  pub found : sequence_of ss name ≡ Some sequence
   pub explicit : same sequence star ≡ false
 
 -- a known name has that sequence
-pub known_sequence : (ss : List Segment) (name seq : List ℕ) → sequence_of ss name ≡ some seq → sequence_or_empty ss name ≡ seq
+pub known_sequence : (ss : List Segment) (name seq : List ℕ) → sequence_of ss name ≡ Some seq → sequence_or_empty ss name ≡ seq
 unfolding sequence_or_empty
 known_sequence ss name seq e = rw (e, sequence_or_empty)
 
 -- a step on a known name has a sequence
 pub known_has : (ss : List Segment) (s : Step) → Known ss s.name.bytes → has_sequence ss s ≡ true
-unfolding has_sequence Option-elim
+unfolding has_sequence map_or
 known_has ss s k = rw (k.found, k.explicit)
 
 -- and so has each step of a list
@@ -48,8 +49,8 @@ module _ (comp : ℕ → ℕ) (ss : List Segment) where
   step_spelt : (s : Step) (o : Option (List ℕ)) (m : Spelt) (x : List ℕ) → sequence_of ss s.name.bytes ≡ o → spell_step comp s o m ≡ spelt x
       → Known ss s.name.bytes × ((more : List ℕ) × (m ≡ spelt more))
   unfolding spell_step
-  step_spelt s none m x e h = let z : ◌≡◌ {A = ℕ} 0 1 = cc in absurd (omega arith)
-  step_spelt s (some seq) m x e h =
+  step_spelt s None m x e h = let z : ◌≡◌ {A = ℕ} 0 1 = cc in absurd (omega arith)
+  step_spelt s (Some seq) m x e h =
       by_test (same seq star)
       (λ f. let z : ◌≡◌ {A = ℕ} 0 1 = cc (rw f at h) in absurd (omega arith))
       (λ f. (record { sequence = seq; found = e; explicit = f }, behind_spelt (oriented comp s.orientation seq) m x (rw f at h)))
@@ -63,12 +64,12 @@ module _ (comp : ℕ → ℕ) (ss : List Segment) where
       (k, spelt_known steps m.0 m.1)
 
 -- Where no path has a bad step, all steps of all paths are known.
-pub none_bad : (es : List Entry) (ps : List Path) → bad_step es ps ≡ none → Each (λ p. Each (λ s. Known (segments es) s.name.bytes) p.steps) ps
+pub none_bad : (es : List Entry) (ps : List Path) → bad_step es ps ≡ None → Each (λ p. Each (λ s. Known (segments es) s.name.bytes) p.steps) ps
 unfolding bad_step
 none_bad es [] h = tt
 none_bad es (p ∷ ps) h = go (λ q. none_bad es ps q) (spell complement (segments es) p.steps) refl
   where
-    go : (bad_step es ps ≡ none → Each (λ p. Each (λ s. Known (segments es) s.name.bytes) p.steps) ps) → (m : Spelt) → spell complement (segments es) p.steps ≡ m
+    go : (bad_step es ps ≡ None → Each (λ p. Each (λ s. Known (segments es) s.name.bytes) p.steps) ps) → (m : Spelt) → spell complement (segments es) p.steps ≡ m
         → Each (λ p. Each (λ s. Known (segments es) s.name.bytes) p.steps) (p ∷ ps)
     go more (bad n name) e = let z : ◌≡◌ {A = ℕ} 0 1 = cc (rw (e, bad_step) at h) in absurd (omega arith)
     go more (spelt x) e = (spelt_known complement (segments es) p.steps x e, more (rw (e, bad_step) at h))

@@ -1,4 +1,5 @@
 -- Laws of the definitions of a GFA text, in reading order.
+pub mod Options
 pub mod Computing
 pub mod Tests
 pub mod Each

@@ -3,7 +3,7 @@ use Prim.Native.Nat.{ℕ, suc, ◌+◌, ◌*◌, ◌≤◌, ◌<◌}
 use native.Mathlib.Omega.{arith}
 use mathlib.Core.Bool.{Bool, true, false, cond, not, ◌&&◌, ◌||◌}
 use mathlib.Core.List.{List, [], ◌∷◌, ◌++◌}
-use mathlib.Core.Option.{Option, none, some}
+use Rattle.std.specs.Prelude.{Option, None, Some}
 use mathlib.Core.Path.{◌≡◌, refl}
 use lib.Dec.{eqb, leb, ltb}
 use lib.ListN.{length}
@@ -143,7 +143,7 @@ parse_numbered text = lines_numbered 1 [] (lines text)
 -- ---- a call
 
 -- a bad byte is refused by 2 or 3
-bad_numbered : (at : ℕ) (s : List ℕ) (r : Refusal) → bad_byte at s ≡ some r → (2 ≤ r.number) × (r.number ≤ 3)
+bad_numbered : (at : ℕ) (s : List ℕ) (r : Refusal) → bad_byte at s ≡ Some r → (2 ≤ r.number) × (r.number ≤ 3)
 unfolding bad_byte at_place
 bad_numbered at [] r e = let z : ◌≡◌ {A = ℕ} 0 1 = cc in absurd (omega arith)
 bad_numbered at (b ∷ []) r e =
@@ -178,8 +178,8 @@ input_either false x y h k = k
 -- a text whose bytes were looked at
 bytes_numbered : (o : Option Refusal) (text : List ℕ) (work : ℕ) → bad_byte 0 text ≡ o → NumberedInput (of_bytes o text work)
 unfolding of_bytes plainly
-bytes_numbered (some r) text work e = let b = bad_numbered 0 text r e in omega arith
-bytes_numbered none text work e = input_either (ltb work (4 * length text + 64)) (Input.refusal (plainly 4)) (of_parsed (parse text)) (omega arith) (parsed_numbered (parse text) (parse_numbered text))
+bytes_numbered (Some r) text work e = let b = bad_numbered 0 text r e in omega arith
+bytes_numbered None text work e = input_either (ltb work (4 * length text + 64)) (Input.refusal (plainly 4)) (of_parsed (parse text)) (omega arith) (parsed_numbered (parse text) (parse_numbered text))
 
 -- a call is refused by 1 to 17, before anything is answered
 pub input_numbered : (text : List ℕ) (work : ℕ) → NumberedInput (input text work)
@@ -202,8 +202,8 @@ behind_numbered s (spelt t) h = tt
 -- a step in front
 step_numbered : (comp : ℕ → ℕ) (s : Step) (o : Option (List ℕ)) (r : Spelt) → NumberedSpelt r → NumberedSpelt (spell_step comp s o r)
 unfolding spell_step
-step_numbered comp s none r h = omega arith
-step_numbered comp s (some seq) r h =
+step_numbered comp s None r h = omega arith
+step_numbered comp s (Some seq) r h =
     by_test (same seq star) (λ e. rw e (omega arith)) (λ e. rw e (behind_numbered (oriented comp s.orientation seq) r h))
 
 -- a bad step is refused by 18 or 19

@@ -2,7 +2,7 @@
 use Prim.Native.Nat.{ℕ, suc}
 use mathlib.Core.Bool.{Bool, true, false, true≢false}
 use mathlib.Core.List.{List, [], ◌∷◌, ◌++◌, map, append_assoc}
-use mathlib.Core.Option.{none}
+use Rattle.std.specs.Prelude.{None}
 use mathlib.Core.Path.{◌≡◌, refl, sym, ap, ◌∙◌}
 use Rattle.gfa_spec.specs.Bytes.{same, any, join, tabbed, ended, Part, distinct, Each}
 use Rattle.gfa_spec.specs.Reading.{fields, Entry, accepted, parse_line, parsed, id_of, after, onward, parse_lines, parse, map_read, choose}
@@ -65,7 +65,7 @@ read_again es h d c =
     parse_ended ls (line_unfed ls clean) (line_unreturned ls clean) ∙ again_lines 1 [] es h d
 
 -- and the text has no bad byte
-pub written_good : (es : List Entry) → Each (λ e. LineBytes (written e)) es → bad_byte 0 (ended (map written es)) ≡ none
+pub written_good : (es : List Entry) → Each (λ e. LineBytes (written e)) es → bad_byte 0 (ended (map written es)) ≡ None
 written_good es c = ended_good 0 (map written es) (each_map LineBytes written es c)
 
 -- ---- entries that were read

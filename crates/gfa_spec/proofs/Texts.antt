@@ -3,7 +3,7 @@ use Prim.Native.Nat.{ℕ, suc}
 use native.Mathlib.Omega.{arith}
 use mathlib.Core.Bool.{true}
 use mathlib.Core.List.{List, [], ◌∷◌, ◌++◌, map, append-nil, append_assoc}
-use mathlib.Core.Option.{none}
+use Rattle.std.specs.Prelude.{None}
 use mathlib.Core.Path.{◌≡◌, refl, ap}
 use Rattle.gfa_spec.specs.Bytes.{any, all, join, Part, one, nil, distinct, Each}
 use Rattle.gfa_spec.specs.Reading.{fields, field, Entry, header, comment, blank, other, segment, link, path, Read, refused, accepted, lines, parse_line, Parsed, refused_at, parsed, id_of, after, onward, parse_lines, parse, choose}
@@ -61,7 +61,7 @@ reads_from ids (p ∷ ps) [] h r = absurd r
 reads_from ids (p ∷ ps) (e ∷ es) h r = (record { ids = ids; line = p; reads = r.0; clean = h.0 }, reads_from (ids ++ id_of e) ps es h.1 r.1)
 
 -- the entries of a text with no bad byte come from clean lines
-pub parse_from : (text : List ℕ) (es : List Entry) → bad_byte 0 text ≡ none → parse text ≡ parsed es → Each From es
+pub parse_from : (text : List ℕ) (es : List Entry) → bad_byte 0 text ≡ None → parse text ≡ parsed es → Each From es
 unfolding parse
 parse_from text es good h = reads_from [] (lines text) es (lines_clean text good) (parse_reads 1 [] (lines text) es h)
 
@@ -99,7 +99,7 @@ pub from_clean : (e : Entry) → From e → CleanEntry e
 from_clean e f = holds_clean f.ids f.line (fields f.line) e f.clean (fields_clean f.line f.clean) (line_holds f.ids f.line e f.reads)
 
 -- every entry of a text with no bad byte is clean
-pub parse_clean : (text : List ℕ) (es : List Entry) → bad_byte 0 text ≡ none → parse text ≡ parsed es → Each CleanEntry es
+pub parse_clean : (text : List ℕ) (es : List Entry) → bad_byte 0 text ≡ None → parse text ≡ parsed es → Each CleanEntry es
 parse_clean text es good h = each_implies from_clean es (parse_from text es good h)
 
 -- ---- the IDs of a text

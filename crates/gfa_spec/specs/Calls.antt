@@ -1,6 +1,6 @@
 -- The calls that are refused before anything is answered, and the answers. Document 01, "Refused calls".
 use Rattle.std.specs.Prelude.{ℕ, suc, ◌+◌, ◌*◌, cond, not, ◌&&◌, List, [], ◌∷◌, eqb, leb, ltb, length}
-use Rattle.std.proofs.Math.Option.{Option, none, some}
+use Rattle.std.specs.Prelude.{Option, None, Some}
 use Rattle.gfa_spec.specs.Bytes.{Part}
 use Rattle.gfa_spec.specs.Reading.{Entry, Parsed, refused_at, parsed, parse}
 
@@ -33,11 +33,11 @@ on_name n name = record { number = n; line = 0; from = name.at; length = length 
 
 -- the first byte of 128 or more (2), or carriage return not followed at once by a line feed (3), whichever comes first
 unfoldable pub bad_byte : ℕ → List ℕ → Option Refusal
-bad_byte at [] = none
-bad_byte at (b ∷ []) = cond (leb 128 b) (some (at_place 2 at)) (cond (eqb b 13) (some (at_place 3 at)) none)
+bad_byte at [] = None
+bad_byte at (b ∷ []) = cond (leb 128 b) (Some (at_place 2 at)) (cond (eqb b 13) (Some (at_place 3 at)) None)
 bad_byte at (b ∷ (c ∷ bs)) =
-    cond (leb 128 b) (some (at_place 2 at))
-    (cond (eqb b 13 && not (eqb c 10)) (some (at_place 3 at))
+    cond (leb 128 b) (Some (at_place 2 at))
+    (cond (eqb b 13 && not (eqb c 10)) (Some (at_place 3 at))
     (bad_byte (suc at) (c ∷ bs)))
 
 -- What a text and a work area of so many words give: the text's entries, or a refusal of 1 to 17.
@@ -52,8 +52,8 @@ of_parsed (parsed es) = entries es
 
 -- 2 and 3, then 4: the work area is shorter than 4 words per text byte plus 64
 unfoldable pub of_bytes : Option Refusal → List ℕ → ℕ → Input
-of_bytes (some r) text work = refusal r
-of_bytes none text work = cond (ltb work (4 * length text + 64)) (refusal (plainly 4)) (of_parsed (parse text))
+of_bytes (Some r) text work = refusal r
+of_bytes None text work = cond (ltb work (4 * length text + 64)) (refusal (plainly 4)) (of_parsed (parse text))
 
 -- 1: the text is longer than 1,048,576 bytes; then the others in their order
 unfoldable pub input : List ℕ → ℕ → Input

@@ -1,6 +1,6 @@
 -- Decimal numbers as text. Document 01, "Folding", rule 5, and "The report's lines".
 use Rattle.std.specs.Prelude.{ℕ, zero, suc, ◌+◌, ◌-◌, ◌*◌, ◌/◌, ◌%◌, Bool, true, false, cond, not, ◌&&◌, List, [], ◌∷◌, eqb, leb, ltb}
-use Rattle.std.proofs.Math.Option.{Option, none, some}
+use Rattle.std.specs.Prelude.{Option, None, Some}
 use Rattle.gfa_spec.specs.Bytes.{all, is_empty}
 
 -- ---- writing
@@ -40,4 +40,4 @@ unsigned (b ∷ bs) = cond (eqb b 43) bs (b ∷ bs)
 
 -- the number that a string reads as (rule 5), none where it reads as no decimal number
 unfoldable pub number_of : List ℕ → Option ℕ
-number_of s = cond (is_numeral (unsigned s)) (some (value_from 0 (unsigned s))) none
+number_of s = cond (is_numeral (unsigned s)) (Some (value_from 0 (unsigned s))) None

@@ -4,7 +4,8 @@
 use Rattle.std.specs.Prelude.{ℕ, suc, Bool, true, false, cond, not, ◌&&◌, ◌||◌, eqb, leb, length, take, drop}
 use Prim.Native.String.{String}
 use mathlib.Core.List.{List, [], ◌∷◌, ◌++◌, map, tail, drop_last}
-use Rattle.std.proofs.Math.Option.{Option, none, some, Option-elim}
+use Rattle.std.specs.Prelude.{Option, None, Some}
+use Rattle.gfa_spec.specs.Options.{map_or}
 use Rattle.gfa_spec.specs.Bytes.{bytes, same, star, is_empty, all, nth, last_byte, join_with, prepend, between}
 
 -- ---- classes of bytes
@@ -189,11 +190,11 @@ pub data Sort : Type 0 where
 -- the sort that a letter names
 unfoldable pub sort_of : List ℕ → Option Sort
 sort_of letter =
-    cond (same letter (bytes "S")) (some S)
-    (cond (same letter (bytes "L")) (some L)
-    (cond (same letter (bytes "P")) (some P)
-    (cond (same letter (bytes "W")) (some W)
-    none)))
+    cond (same letter (bytes "S")) (Some S)
+    (cond (same letter (bytes "L")) (Some L)
+    (cond (same letter (bytes "P")) (Some P)
+    (cond (same letter (bytes "W")) (Some W)
+    None)))
 
 -- the sort of a line
 unfoldable pub line_sort : List ℕ → Option Sort
@@ -220,11 +221,11 @@ fits es cs = begins es cs && all is_tag (drop (length es) cs)
 
 -- is the line an S, L, P or W line of GFA 1.1, whatever its tags are?
 unfoldable pub allows_untagged : List ℕ → Bool
-allows_untagged line = Option-elim (line_sort line) false (λ s. begins (expressions s) (tail (columns line)))
+allows_untagged line = map_or (line_sort line) false (λ s. begins (expressions s) (tail (columns line)))
 
 -- is the line an S, L, P or W line of GFA 1.1?
 unfoldable pub allows : List ℕ → Bool
-allows line = Option-elim (line_sort line) false (λ s. fits (expressions s) (tail (columns line)))
+allows line = map_or (line_sort line) false (λ s. fits (expressions s) (tail (columns line)))
 
 -- and of GFA 1.0, which has no W lines?
 unfoldable pub allows10 : List ℕ → Bool
@@ -232,14 +233,14 @@ allows10 line = allows line && not (same (column 1 (columns line)) (bytes "W"))
 
 -- the first column that is missing or does not match; k is the number of the first one given
 unfoldable pub broken_from : ℕ → List (List ℕ → Bool) → List (List ℕ) → Option ℕ
-broken_from k [] [] = none
-broken_from k [] (c ∷ cs) = cond (is_tag c) (broken_from (suc k) [] cs) (some k)
-broken_from k (e ∷ es) [] = some k
-broken_from k (e ∷ es) (c ∷ cs) = cond (e c) (broken_from (suc k) es cs) (some k)
+broken_from k [] [] = None
+broken_from k [] (c ∷ cs) = cond (is_tag c) (broken_from (suc k) [] cs) (Some k)
+broken_from k (e ∷ es) [] = Some k
+broken_from k (e ∷ es) (c ∷ cs) = cond (e c) (broken_from (suc k) es cs) (Some k)
 
 -- the first column of a line that is missing or breaks its expression; 1 where the letter is none of S, L, P, W
 unfoldable pub first_broken : List ℕ → Option ℕ
-first_broken line = Option-elim (line_sort line) (some 1) (λ s. broken_from 2 (expressions s) (tail (columns line)))
+first_broken line = map_or (line_sort line) (Some 1) (λ s. broken_from 2 (expressions s) (tail (columns line)))
 
 -- ---- records
 
@@ -275,7 +276,7 @@ record_of W cs =
 
 -- the record that a line states, if its required columns match; its tags are taken as they stand
 unfoldable pub states : List ℕ → Option Record
-states line = Option-elim (line_sort line) none (λ s. cond (allows_untagged line) (some (record_of s (columns line))) none)
+states line = map_or (line_sort line) None (λ s. cond (allows_untagged line) (Some (record_of s (columns line))) None)
 
 -- the item of a visit, such as `a+`
 unfoldable pub item_of : Visit → List ℕ
@@ -305,8 +306,8 @@ no_comma_in (walk sample haplotype sequence start end steps visits tags) = all (
 
 -- no segment name of the line holds a comma
 unfoldable pub no_comma : List ℕ → Bool
-no_comma line = Option-elim (states line) true no_comma_in
+no_comma line = map_or (states line) true no_comma_in
 
 -- an S, L, P or W line that is allowed, whatever its tags are, no segment name holding a comma; or a line of another sort
 unfoldable pub conforms : List ℕ → Bool
-conforms line = Option-elim (line_sort line) true (λ s. allows_untagged line && no_comma line)
+conforms line = map_or (line_sort line) true (λ s. allows_untagged line && no_comma line)

@@ -1,6 +1,7 @@
 -- What the reader reads, in the words of the specification: the two are compared by these. Places are left out.
 use Rattle.std.specs.Prelude.{ℕ, Bool, true, cond, not, ◌&&◌, List, [], ◌∷◌, ◌++◌, map, ◌≡◌, drop}
-use Rattle.std.proofs.Math.Option.{Option, none, some, Option-elim}
+use Rattle.std.specs.Prelude.{Option, None, Some}
+use Rattle.gfa_spec.specs.Options.{map_or}
 use Rattle.gfa_spec.specs.Bytes.{same, any, Part}
 use Rattle.gfa_spec.specs.Reading.{Step, Kind, Entry, header, comment, blank, other, segment, link, path, Read, refused, accepted}
 use Rattle.gfa_spec.specs.Gfa1.{columns, column, Visit, Record, states, conforms}
@@ -18,14 +19,14 @@ path_record Kind.W cs visits = Record.walk (column 2 cs) (column 3 cs) (column 4
 
 -- the record that an entry states, none for a raw line; what a segment and a link do not name is read of the line that they keep
 unfoldable pub stated : Entry → Option Record
-stated (header l) = none
-stated (comment l) = none
-stated (blank l) = none
-stated (other l) = none
-stated (segment s) = some (Record.segment s.id s.sequence (drop 3 (columns s.line)))
+stated (header l) = None
+stated (comment l) = None
+stated (blank l) = None
+stated (other l) = None
+stated (segment s) = Some (Record.segment s.id s.sequence (drop 3 (columns s.line)))
 stated (link l) =
-    some (Record.link l.from l.from_orientation l.to l.to_orientation (column 6 (columns l.line)) (drop 6 (columns l.line)))
-stated (path p) = some (path_record p.kind p.fields (map visit_of p.steps))
+    Some (Record.link l.from l.from_orientation l.to l.to_orientation (column 6 (columns l.line)) (drop 6 (columns l.line)))
+stated (path p) = Some (path_record p.kind p.fields (map visit_of p.steps))
 
 -- a record without its tags
 unfoldable pub untagged : Record → Record
@@ -36,15 +37,15 @@ untagged (Record.walk sample haplotype sequence start end steps visits tags) = R
 
 -- the record that an entry states, without its tags
 unfoldable pub stated_untagged : Entry → Option Record
-stated_untagged e = Option-elim (stated e) none (λ r. some (untagged r))
+stated_untagged e = map_or (stated e) None (λ r. Some (untagged r))
 
 -- the name of a segment
 unfoldable pub name_in : Option Record → List (List ℕ)
-name_in none = []
-name_in (some (Record.segment name sequence tags)) = name ∷ []
-name_in (some (Record.link from from_orientation to to_orientation overlap tags)) = []
-name_in (some (Record.path name visits overlaps tags)) = []
-name_in (some (Record.walk sample haplotype sequence start end steps visits tags)) = []
+name_in None = []
+name_in (Some (Record.segment name sequence tags)) = name ∷ []
+name_in (Some (Record.link from from_orientation to to_orientation overlap tags)) = []
+name_in (Some (Record.path name visits overlaps tags)) = []
+name_in (Some (Record.walk sample haplotype sequence start end steps visits tags)) = []
 
 -- is it a segment whose name is among the IDs?
 unfoldable pub known : List (List ℕ) → Option Record → Bool

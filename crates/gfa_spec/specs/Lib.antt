@@ -1,4 +1,5 @@
 -- The meaning of a GFA text, in reading order.
+pub mod Options
 pub mod Bytes
 pub mod Decimal
 pub mod Reading

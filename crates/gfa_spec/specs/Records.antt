@@ -1,7 +1,8 @@
 -- The records of a text, each sort in text order. Document 01, "Reading": segment numbers, link numbers and path numbers count
 -- separately from 0, so a record's number is its place in the list of its sort.
 use Rattle.std.specs.Prelude.{ℕ, suc, Bool, false, cond, not, List, [], ◌∷◌, ◌++◌}
-use Rattle.std.proofs.Math.Option.{Option, none, some, Option-elim, map, get_or}
+use Rattle.std.specs.Prelude.{Option, unwrap_or, option_map, None, Some}
+use Rattle.gfa_spec.specs.Options.{map_or}
 use Rattle.gfa_spec.specs.Bytes.{same, star, one, nil, count}
 use Rattle.gfa_spec.specs.Reading.{Step, Segment, Link, Path, Entry, choose}
 
@@ -36,21 +37,21 @@ paths es = collect (choose nil nil nil nil one) es
 
 -- the sequence of the segment so named; no two segments of a text have one name (6)
 unfoldable pub sequence_of : List Segment → List ℕ → Option (List ℕ)
-sequence_of [] name = none
-sequence_of (s ∷ ss) name = cond (same s.id name) (some s.sequence) (sequence_of ss name)
+sequence_of [] name = None
+sequence_of (s ∷ ss) name = cond (same s.id name) (Some s.sequence) (sequence_of ss name)
 
 -- the same, and no byte where no segment is so named
 unfoldable pub sequence_or_empty : List Segment → List ℕ → List ℕ
-sequence_or_empty ss name = get_or (sequence_of ss name) []
+sequence_or_empty ss name = unwrap_or (sequence_of ss name) []
 
 -- a step has a sequence: a segment of its text has that name, and a sequence other than `*` ("Folding", last paragraph)
 unfoldable pub has_sequence : List Segment → Step → Bool
-has_sequence ss s = Option-elim (sequence_of ss s.name.bytes) false (λ seq. not (same seq star))
+has_sequence ss s = map_or (sequence_of ss s.name.bytes) false (λ seq. not (same seq star))
 
 -- the number of the segment so named, none where no segment is
 unfoldable pub segment_number : List Segment → List ℕ → Option ℕ
-segment_number [] name = none
-segment_number (s ∷ ss) name = cond (same s.id name) (some 0) (map suc (segment_number ss name))
+segment_number [] name = None
+segment_number (s ∷ ss) name = cond (same s.id name) (Some 0) (option_map suc (segment_number ss name))
 
 -- a link with equal ends, any orientations: a self-link
 unfoldable pub is_self_link : Link → Bool

@@ -1,6 +1,6 @@
 -- The service that spells path k, and the first bad step of all paths. Document 01, "The four services", "Refused calls".
 use Rattle.std.specs.Prelude.{ℕ, zero, suc, List, [], ◌∷◌}
-use Rattle.std.proofs.Math.Option.{Option, none, some}
+use Rattle.std.specs.Prelude.{Option, None, Some}
 use Rattle.gfa_spec.specs.Reading.{Path, Entry}
 use Rattle.gfa_spec.specs.Records.{segments, paths}
 use Rattle.gfa_spec.specs.Sequences.{complement}
@@ -11,10 +11,10 @@ use Rattle.gfa_spec.specs.Calls.{Refusal, plainly, on_name, Input, entries, inpu
 
 -- the first bad step, paths in text order: 18 or 19, with the place and length of its name
 unfoldable pub bad_step : List Entry → List Path → Option Refusal
-bad_step es [] = none
+bad_step es [] = None
 bad_step es (p ∷ ps) =
     elim (spell complement (segments es) p.steps) as (λ _. Option Refusal) [
-      | bad n name ↦ some (on_name n name)
+      | bad n name ↦ Some (on_name n name)
       | spelt seq ↦ bad_step es ps
     ]
 
@@ -22,8 +22,8 @@ bad_step es (p ∷ ps) =
 
 -- path k, counted from 0
 unfoldable pub nth_path : ℕ → List Path → Option Path
-nth_path k [] = none
-nth_path zero (p ∷ ps) = some p
+nth_path k [] = None
+nth_path zero (p ∷ ps) = Some p
 nth_path (suc k) (p ∷ ps) = nth_path k ps
 
 -- what is spelled is the answer; a bad step is refused as 18 or 19, with the place and length of its name
@@ -33,8 +33,8 @@ of_spelt room (spelt bs) = fitted room bs
 
 -- 21: no path of that number
 unfoldable pub of_path : ℕ → List Entry → Option Path → Outcome
-of_path room es none = Outcome.refusal (plainly 21)
-of_path room es (some p) = of_spelt room (spell complement (segments es) p.steps)
+of_path room es None = Outcome.refusal (plainly 21)
+of_path room es (Some p) = of_spelt room (spell complement (segments es) p.steps)
 
 -- the answer of a call, by what was read
 unfoldable pub spell_entries : ℕ → ℕ → Input → Outcome

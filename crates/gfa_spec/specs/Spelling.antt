@@ -1,6 +1,6 @@
 -- What steps spell. Document 01, "Complement and spelling", and the refusals 18 and 19.
 use Rattle.std.specs.Prelude.{ℕ, cond, List, [], ◌∷◌, ◌++◌}
-use Rattle.std.proofs.Math.Option.{Option, none, some}
+use Rattle.std.specs.Prelude.{Option, None, Some}
 use Rattle.gfa_spec.specs.Bytes.{same, star, Part}
 use Rattle.gfa_spec.specs.Reading.{Step, Segment}
 use Rattle.gfa_spec.specs.Records.{sequence_of}
@@ -18,8 +18,8 @@ behind seq (spelt more) = spelt (seq ++ more)
 
 -- a step, of the sequence found by its name, before what the steps behind it spell
 unfoldable pub spell_step : (comp : ℕ → ℕ) → Step → Option (List ℕ) → Spelt → Spelt
-spell_step comp s none more = bad 18 s.name
-spell_step comp s (some seq) more = cond (same seq star) (bad 19 s.name) (behind (oriented comp s.orientation seq) more)
+spell_step comp s None more = bad 18 s.name
+spell_step comp s (Some seq) more = cond (same seq star) (bad 19 s.name) (behind (oriented comp s.orientation seq) more)
 
 -- the sequences of the steps, joined with no regard to overlaps; `comp` gives the complement of a byte
 unfoldable pub spell : (comp : ℕ → ℕ) → List Segment → List Step → Spelt

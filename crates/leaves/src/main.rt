@@ -12,28 +12,22 @@ mod writing;
 
 use crate::writing::writing;
 use cases::agreement::agrees;
-use cases::buffers::{fill_bytes, within};
+use cases::buffers::fill_bytes;
 use cases::headers::ROOM;
 use cases::lists::{Case, case_at, skip};
 use cases::tallies::{Tally, counted, print};
 
 // Calls the leaf that a case names, on a buffer that holds a pattern: are its answer and the buffer as expected?
-fn case_agrees(list: &[u8], start: usize, c: Case, row: &[usize; 24], out: &mut [u8]) -> bool
-    requires { CaseIs (length list.now) start c }
+fn case_agrees(list: &[u8], c: Case, row: &[usize; 24], out: &mut [u8]) -> bool
+    requires { CaseIs (length list.now) c.start c }
     ensures { Tells (LeftBytes out.new (part c.output (c.last - c.output) list.now)) result }
 {
-    let blank = c.blank;
-    let text = c.text;
-    let stop = c.stop;
-    let room = within(row[ROOM], out.len());
+    let name = &list[c.start..c.blank];
+    let text = &list[c.text..c.stop];
+    let room = row[ROOM].min(out.len());
     fill_bytes(out);
-    let found = writing(
-        &list[start..blank],
-        row,
-        &list[text..stop],
-        &mut out[..room],
-    );
-    agrees(list, start, c, row, &found, &[], out)
+    let answer = writing(name, row, text, &mut out[..room]);
+    agrees(list, c, row, &answer, &[], out)
 }
 
 // Runs the cases in their order.
@@ -46,9 +40,10 @@ fn run(list: &[u8], out: &mut [u8]) -> Tally
         differ: 0,
     };
     let mut at = skip(list, 0);
+    // By cases: each says where the next one starts.
     while at < list.len() {
         let c = case_at(list, at, &mut row);
-        t = counted(t, list, at, c.end, case_agrees(list, at, c, &row, out));
+        t = counted(t, list, at, c.end, case_agrees(list, c, &row, out));
         at = c.next;
     }
     t

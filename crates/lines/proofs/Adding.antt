@@ -1,8 +1,13 @@
 -- A line's record put into its table. Assumes nothing.
+use Rattle.std.specs.Prelude.{Result, Ok, Err, Option, None, Some}
+use Rattle.refusals.specs.declared.reason.Reason.{Reason}
+use Rattle.refusals.specs.declared.reason.Reason.TheVariants.{KnownSegment}
+use Rattle.refusals.specs.Reasons.{number_of}
+use Rattle.scan.specs.Orientations.{sign_of}
+use Rattle.scan.proofs.Orientations.{sign_is}
 use Prim.Native.Nat.{ℕ, ◌+◌, ◌*◌, ◌-◌, ◌≤◌, ◌<◌}
 use native.Mathlib.Numerals.{add-one}
 use native.Mathlib.Omega.{arith}
-use mathlib.Core.Bool.{true}
 use mathlib.Core.List.{List, [], ◌∷◌}
 use mathlib.Core.Logic.{inr}
 use mathlib.Core.Path.{◌≡◌, refl, ap, sym, ◌∙◌}
@@ -11,38 +16,26 @@ use lib.Seq.{sets, length-sets}
 use borrow.Author.Tests.{lt-ltb, le-ltb}
 use Rattle.tables.specs.declared.entry.Record.{Record}
 use Rattle.tables.specs.declared.entry.Record.TheVariants.{Segment, Link, Path, Header, Comment, Blank, Other}
-use Rattle.tables.specs.declared.segments.Found as search-found
-use Rattle.tables.specs.declared.segments.Found.TheVariants as found
-use Rattle.scan.specs.declared.places.Field.{Field}
-use Rattle.scan.specs.declared.places.Field.TheVariants.{Found, Missing}
 use Rattle.lines.specs.declared.sort.Sort.{Sort}
 use Rattle.lines.specs.declared.sort.Sort.TheVariants as sort
 use Rattle.tables.specs.declared.tables.Bases.{Bases}
 use Rattle.tables.specs.declared.tables.Counts.{Counts}
-use Rattle.lines.specs.declared.added.Added.{Added}
-use Rattle.lines.specs.declared.added.Added.TheVariants.{Rows, Refused}
-use Rattle.steps.specs.declared.checked.Checked.{Checked}
-use Rattle.steps.specs.declared.checked.Checked.TheVariants as checked
 use Rattle.gfa_spec.specs.Bytes.{sum, one, nil}
-use Rattle.gfa_spec.specs.Reading.{segment, link, path, choose, accepted, fields, parse_line, is_orientation, parse_s}
+use Rattle.gfa_spec.specs.Reading.{segment, link, path, choose, accepted, fields, parse_line, parse_s}
 use Rattle.gfa_spec.specs.Records.{paths, collect}
 use Rattle.gfa_spec.specs.Runs.{over_paths, step_count}
 use Rattle.scan.specs.Places.{part_at, FewFields, FieldIs}
-use Rattle.lines.specs.declared.links.LinkFields.{LinkFields}
-use Rattle.lines.specs.declared.links.LinkFields.TheVariants as link-fields
-use Rattle.lines.specs.declared.segments.SegmentFields.{SegmentFields}
-use Rattle.lines.specs.declared.segments.SegmentFields.TheVariants as segment-fields
 use Rattle.tables.specs.declared.entry.SegmentNo.{SegmentNo}
 use Rattle.tables.specs.declared.rows.SegmentWords.{SegmentWords}
 use Rattle.lines.specs.SegmentLines.{SegmentHolds, SegmentFieldsAre}
-use Rattle.lines.specs.PathLines.{PathHolds, PathRefused, PathSays, PathStepsAre}
+use Rattle.lines.specs.PathLines.{PathHolds, PathSays, PathStepsAre}
 use Rattle.lines.specs.LinkLines.{LinkHolds, LinkRefused, LinkFieldsAre}
 use Rattle.tables.specs.declared.rows.LinkWords.{LinkWords}
-use Rattle.tables.specs.ByNumber.{segment_words, link_words}
-use Rattle.work.specs.Rows.{Small}
+use Rattle.tables.specs.ByNumber.{segment_words, link_words, FoundIs}
 use Rattle.lines.specs.Sorts.{SortIs, read_as}
 use Rattle.tables.specs.Tables.{one_more}
-use Rattle.tables.specs.Segments.{segments_at, ids_of, FoundIs}
+use Rattle.tables.specs.Segments.{segments_at, ids_of}
+use Rattle.scan.specs.declared.places.Place.{Place}
 use Rattle.tables.specs.Steps.{step_at, steps_at}
 use Rattle.steps.specs.StepFields.{StepsSay, StepsIs}
 use Rattle.tables.specs.declared.kinds.PathKind.{PathKind}
@@ -50,7 +43,6 @@ use Rattle.tables.specs.declared.kinds.PathKind.TheVariants as kind
 use Rattle.tables.specs.Paths.{kind_of, kind_in, kind_word, column_of, short_of, steps_of, path_at}
 use Rattle.tables.specs.Entries.{words_of, entry_of}
 use Rattle.lines.specs.Lines.{segs_of, links_of, paths_of, NewRow, Ready, Entered, AddedIs, LineRead}
-use Rattle.gfa_spec.proofs.Steps.{by_orientation}
 use Rattle.scan.proofs.Fields.{field_bytes, found_at, few_fields}
 use Rattle.tables.proofs.Numbers.{found_known, found_new}
 use Rattle.work.proofs.Rows.{rows_length, KeptWords, only_none, only_put, only_then, only_wider, only_kept, kept_within, outside_less}
@@ -86,7 +78,7 @@ sorted s e = rw e at s
 module _ {text work : List ℕ} {b : Bases} {n : Counts} {start size : ℕ} (y : Ready text work b n start size) where
   -- a raw line changes no table
   raw_added : (r : Record) → parse_line (ids_of (segments_at text work b.segs n.segs)) (part_at text start size) ≡ accepted (entry_of text work b r) →
-      segs_of r ≡ 0 → links_of r ≡ 0 → paths_of r ≡ 0 → NewRow text work b n (one_more n 0 0 0 0) r → AddedIs text work work b n start size (Rows r (one_more n 0 0 0 0))
+      segs_of r ≡ 0 → links_of r ≡ 0 → paths_of r ≡ 0 → NewRow text work b n (one_more n 0 0 0 0) r → AddedIs text work work b n start size (Ok (r, one_more n 0 0 0 0))
   raw_added r e p q t row =
       record {
         says =
@@ -106,58 +98,53 @@ module _ {text work : List ℕ} {b : Bases} {n : Counts} {start size : ℕ} (y :
       }
 
   module _ {r : Sort} {m : Counts} (s : SortIs text start size r) (more : m ≡ one_more n 0 0 0 0) where
-    pub raw_blank : r ≡ sort.Blank → AddedIs text work work b n start size (Rows (Blank (record { start = start; length = size })) m)
+    pub raw_blank : r ≡ sort.Blank → AddedIs text work work b n start size (Ok (Blank (record { start = start; length = size }), m))
     unfolding read_as entry_of part_at
     raw_blank e = rw more (raw_added (Blank (record { start = start; length = size })) ((sorted s e).is _) refl refl refl y.inside)
 
-    pub raw_comment : r ≡ sort.Comment → AddedIs text work work b n start size (Rows (Comment (record { start = start; length = size })) m)
+    pub raw_comment : r ≡ sort.Comment → AddedIs text work work b n start size (Ok (Comment (record { start = start; length = size }), m))
     unfolding read_as entry_of part_at
     raw_comment e = rw more (raw_added (Comment (record { start = start; length = size })) ((sorted s e).is _) refl refl refl y.inside)
 
-    pub raw_header : r ≡ sort.Header → AddedIs text work work b n start size (Rows (Header (record { start = start; length = size })) m)
+    pub raw_header : r ≡ sort.Header → AddedIs text work work b n start size (Ok (Header (record { start = start; length = size }), m))
     unfolding read_as entry_of part_at
     raw_header e = rw more (raw_added (Header (record { start = start; length = size })) ((sorted s e).is _) refl refl refl y.inside)
 
-    pub raw_other : r ≡ sort.Other → AddedIs text work work b n start size (Rows (Other (record { start = start; length = size })) m)
+    pub raw_other : r ≡ sort.Other → AddedIs text work work b n start size (Ok (Other (record { start = start; length = size }), m))
     unfolding read_as entry_of part_at
     raw_other e = rw more (raw_added (Other (record { start = start; length = size })) ((sorted s e).is _) refl refl refl y.inside)
 
 -- ---- S lines
 
-module _ {text : List ℕ} {start size : ℕ} {r : SegmentFields} (h : SegmentFieldsAre text start size r) where
-  segment_holds : {w : SegmentWords} → r ≡ segment-fields.Row w → SegmentHolds text start size w
+module _ {text : List ℕ} {start size : ℕ} {r : Result SegmentWords Reason} (h : SegmentFieldsAre text start size r) where
+  segment_holds : {w : SegmentWords} → r ≡ Ok w → SegmentHolds text start size w
   segment_holds e = rw e at h.says
 
-  -- the words fit
-  pub segment_small : {work : List ℕ} {b : Bases} {n : Counts} {w : SegmentWords} → Ready text work b n start size → r ≡ segment-fields.Row w → Small (segment_words w)
-  segment_small y e =
-      let l = segment_holds e in
-      omega (arith, y.inside, y.short, l.first, l.long, l.id.inside, l.sequence.inside)
-
   -- the ID is a part of the text
-  pub segment_id : {w : SegmentWords} → r ≡ segment-fields.Row w → w.id.start + w.id.size ≤ length text
+  pub segment_id : {w : SegmentWords} → r ≡ Ok w → w.id.start + w.id.size ≤ length text
   segment_id e = (segment_holds e).id.inside
 
-module _ {text work work' : List ℕ} {b : Bases} {n : Counts} {start size : ℕ} {r : SegmentFields} (s : SortIs text start size sort.Segment)
+module _ {text work work' : List ℕ} {b : Bases} {n : Counts} {start size : ℕ} {r : Result SegmentWords Reason} (s : SortIs text start size sort.Segment)
     (h : SegmentFieldsAre text start size r) where
   -- too few fields
-  pub s_short : r ≡ segment-fields.Short → AddedIs text work work' b n start size (Refused 5)
+  pub s_short : {k : Reason} → r ≡ Err k → AddedIs text work work' b n start size (Err k)
   unfolding read_as parse_s
   s_short e =
-      let few : FewFields text start size 2 = rw e at h.says in
-      record { says = record { read = s.is _ ∙ rw (lt-ltb (length (fields (part_at text start size))) 3 (omega (arith, few.few))) } }
+      let says = rw e at h.says in
+      let few : FewFields text start size 2 = says.1 in
+      record { says = record { read = s.is _ ∙ rw (says.0, lt-ltb (length (fields (part_at text start size))) 3 (omega (arith, few.few))) } }
 
-  module _ {w : SegmentWords} (e : r ≡ segment-fields.Row w) {f : search-found.Found} (k : FoundIs text work b.segs n.segs w.id.start w.id.size f) where
+  module _ {w : SegmentWords} (e : r ≡ Ok w) {f : Option SegmentNo} (k : FoundIs text work b n.segs w.id f) where
     -- an ID that was read before
-    pub s_known : {i : SegmentNo} → f ≡ found.At i → AddedIs text work work' b n start size (Refused 6)
+    pub s_known : {i : SegmentNo} → f ≡ Some i → AddedIs text work work' b n start size (Err KnownSegment)
     unfolding read_as parse_s
     s_known at =
         let l = segment_holds h e in
         record { says = record { read = s.is _ ∙ rw (le-ltb (length (fields (part_at text start size))) 3 l.columns.more, field_bytes l.id, found_known k at) } }
 
     -- a new one
-    pub s_added : {m : Counts} → f ≡ found.Nothing → Ready text work b n start size → work' ≡ sets work (b.segs + 6 * n.segs) (segment_words w) →
-        m ≡ one_more n 1 0 0 0 → AddedIs text work work' b n start size (Rows (Segment (record { 0 = n.segs })) m)
+    pub s_added : {m : Counts} → f ≡ None → Ready text work b n start size → work' ≡ sets work (b.segs + 6 * n.segs) (segment_words w) →
+        m ≡ one_more n 1 0 0 0 → AddedIs text work work' b n start size (Ok (Segment (record { 0 = n.segs }), m))
     unfolding read_as parse_s part_at entry_of
     s_added new y q more =
         let l = segment_holds h e in
@@ -200,30 +187,23 @@ module _ {text work work' : List ℕ} {b : Bases} {n : Counts} {start size : ℕ
 -- ---- L lines
 
 -- what the answer says, by its cases
-module _ {text : List ℕ} {start size : ℕ} {r : LinkFields} (h : LinkFieldsAre text start size r) where
-  link_holds : {w : LinkWords} → r ≡ link-fields.Row w → LinkHolds text start size w
+module _ {text : List ℕ} {start size : ℕ} {r : Result LinkWords Reason} (h : LinkFieldsAre text start size r) where
+  link_holds : {w : LinkWords} → r ≡ Ok w → LinkHolds text start size w
   link_holds e = rw e at h.says
 
-  link_refused : {k : ℕ} → r ≡ link-fields.Refused k → LinkRefused text start size k
+  link_refused : {k : Reason} → r ≡ Err k → LinkRefused text start size (number_of k)
   link_refused e = rw e at h.says
 
-  -- the words fit
-  pub link_small : {work : List ℕ} {b : Bases} {n : Counts} {w : LinkWords} → Ready text work b n start size → r ≡ link-fields.Row w → Small (link_words w)
-  link_small {w = w} y e =
-      let l = link_holds e in
-      let small : (o : ℕ) → is_orientation o ≡ true → o < 256 = by_orientation (λ o. o < 256) (omega arith) (omega arith) in
-      omega (arith, y.inside, y.short, l.first, l.long, l.from, l.to, small w.leaves l.leaves, small w.enters l.enters)
-
-module _ {text work work' : List ℕ} {b : Bases} {n : Counts} {start size : ℕ} {r : LinkFields} (s : SortIs text start size sort.Link)
+module _ {text work work' : List ℕ} {b : Bases} {n : Counts} {start size : ℕ} {r : Result LinkWords Reason} (s : SortIs text start size sort.Link)
     (h : LinkFieldsAre text start size r) where
   -- the line is refused
-  pub l_refused : {k : ℕ} → r ≡ link-fields.Refused k → AddedIs text work work' b n start size (Refused k)
+  pub l_refused : {k : Reason} → r ≡ Err k → AddedIs text work work' b n start size (Err k)
   unfolding read_as
   l_refused e = record { says = record { read = s.is _ ∙ (link_refused h e).read } }
 
   -- the link is put into the table
-  pub l_added : {w : LinkWords} {m : Counts} → r ≡ link-fields.Row w → Ready text work b n start size → work' ≡ sets work (b.links + 8 * n.links) (link_words w) →
-      m ≡ one_more n 0 1 0 0 → AddedIs text work work' b n start size (Rows (Link (record { 0 = n.links })) m)
+  pub l_added : {w : LinkWords} {m : Counts} → r ≡ Ok w → Ready text work b n start size → work' ≡ sets work (b.links + 8 * n.links) (link_words w) →
+      m ≡ one_more n 0 1 0 0 → AddedIs text work work' b n start size (Ok (Link (record { 0 = n.links }), m))
   unfolding read_as part_at entry_of
   l_added {w} e y q more =
       let l = link_holds h e in
@@ -239,7 +219,7 @@ module _ {text work work' : List ℕ} {b : Bases} {n : Counts} {start size : ℕ
                   s.is _
                   ∙ l.read
                   ∙ rw (
-                    link_put text work at w.line.start w.line.size w.from.start w.from.size w.leaves w.to.start w.to.size w.enters fits,
+                    link_put text work at w.line.start w.line.size w.from.start w.from.size (sign_of w.leaves) w.to.start w.to.size (sign_of w.enters) fits,
                     l.first,
                     l.long,
                   );
@@ -250,8 +230,8 @@ module _ {text work work' : List ℕ} {b : Bases} {n : Counts} {start size : ℕ
               steps = omega (arith, no_steps text (sets work at row) b (Link (record { 0 = n.links })) refl);
               row = (
                 refl,
-                link_row_put text work at w.line.start w.line.size w.from.start w.from.size w.leaves w.to.start w.to.size w.enters fits
-                    (omega (arith, y.inside, l.first, l.long)) l.from l.to l.leaves l.enters,
+                link_row_put text work at w.line.start w.line.size w.from.start w.from.size (sign_of w.leaves) w.to.start w.to.size (sign_of w.enters) fits
+                    (omega (arith, y.inside, l.first, l.long)) l.from l.to (sign_is w.leaves) (sign_is w.enters),
               );
               visits = λ i l h. absurd (omega arith);
               spent = spent_link text start size n y.inside (omega arith) s.letter;
@@ -269,30 +249,26 @@ kind_of_word kind.P = refl
 kind_of_word kind.W = refl
 
 -- the field that holds the steps
-module _ {text work : List ℕ} {b : Bases} {n : Counts} {start size j : ℕ} {kind : PathKind} {f : Field} (h : FieldIs text start size j f) (c : j ≡ column_of (kind_in kind)) where
+module _ {text work : List ℕ} {b : Bases} {n : Counts} {line : Place} {j : ℕ} {kind : PathKind} {f : Option Place} (h : FieldIs text line j f) (c : j ≡ column_of (kind_in kind)) where
   -- too few fields
-  pub path_missing : {work' : List ℕ} {k : ℕ} → f ≡ Missing → k ≡ short_of (kind_in kind) → PathStepsAre text work work' b n start size kind (checked.Refused k)
+  pub path_missing : {work' : List ℕ} {k : Reason} → f ≡ None → number_of k ≡ short_of (kind_in kind) → PathStepsAre text work work' b n line.start line.size kind (Err k)
   path_missing e k = record { says = record { read = path_short (kind_in kind) (rw c at (few_fields h e)) ∙ rw k } }
 
-  module _ {from long : ℕ} (e : f ≡ Found from long) (s : SortIs text start size (sort.Path kind)) (y : Ready text work b n start size) where
-    steps_short : long + 3 ≤ size
+  module _ {field : Place} (e : f ≡ Some field) (s : SortIs text line.start line.size (sort.Path kind)) (y : Ready text work b n line.start line.size) where
+    steps_short : field.size + 3 ≤ line.size
     steps_short = column_short (kind_in kind) y.inside s.letter (rw c at (found_at h e))
 
-    -- where they are, and what they may use
-    pub steps_inside : from + long ≤ length text
-    steps_inside = (found_at h e).inside
-
-    pub steps_room : {base : ℕ} → base ≡ b.steps + 3 * n.steps → base + 3 * long + 3 ≤ length work
-    steps_room p = omega (arith, steps_short, y.room, path_spare text start size n y.inside (kind_in kind) (omega (arith, steps_short)) s.letter)
+    pub steps_room : {base : ℕ} → base ≡ b.steps + 3 * n.steps → base + 3 * field.size + 3 ≤ length work
+    steps_room p = omega (arith, steps_short, y.room, path_spare text line.start line.size n y.inside (kind_in kind) (omega (arith, steps_short)) s.letter)
 
     -- what is said of the steps is said of the line
-    pub path_told : {work' : List ℕ} {base : ℕ} {r : Checked} → base ≡ b.steps + 3 * n.steps →
-        StepsIs text work work' base long (steps_of (kind_in kind) (part_at text from long)) r → PathStepsAre text work work' b n start size kind r
+    pub path_told : {work' : List ℕ} {base : ℕ} {r : Result ℕ Reason} → base ≡ b.steps + 3 * n.steps →
+        StepsIs text work work' base field.size (steps_of (kind_in kind) (part_at text field.start field.size)) r → PathStepsAre text work work' b n line.start line.size kind r
     path_told {work'} {r = r} p i = record { says = go r (rw p at i.says) }
       where
-        go : (r : Checked) → StepsSay text work work' (b.steps + 3 * n.steps) long (steps_of (kind_in kind) (part_at text from long)) r →
-            PathSays text work work' b n start size kind r
-        go (checked.Value m) q =
+        go : (r : Result ℕ Reason) → StepsSay text work work' (b.steps + 3 * n.steps) field.size (steps_of (kind_in kind) (part_at text field.start field.size)) r →
+            PathSays text work work' b n line.start line.size kind r
+        go (Ok m) q =
             record {
               read = path_accepted (kind_in kind) (rw c at (found_at h e)) _ q.read;
               few = omega (arith, q.few, steps_short);
@@ -300,15 +276,15 @@ module _ {text work : List ℕ} {b : Bases} {n : Counts} {start size j : ℕ} {k
               long = q.long;
               only = q.only;
             }
-        go (checked.Refused k) q = record { read = path_refused (kind_in kind) (rw c at (found_at h e)) q }
+        go (Err k) q = record { read = path_refused (kind_in kind) (rw c at (found_at h e)) q }
 
 -- what the answer says, by its cases
-module _ {text work middle : List ℕ} {b : Bases} {n : Counts} {start size : ℕ} {kind : PathKind} {c : Checked} (h : PathStepsAre text work middle b n start size kind c) where
-  path_holds : {m : ℕ} → c ≡ checked.Value m → PathHolds text work middle b n start size kind m
+module _ {text work middle : List ℕ} {b : Bases} {n : Counts} {start size : ℕ} {kind : PathKind} {c : Result ℕ Reason} (h : PathStepsAre text work middle b n start size kind c) where
+  path_holds : {m : ℕ} → c ≡ Ok m → PathHolds text work middle b n start size kind m
   path_holds e = rw e at h.says
 
   -- how many steps there are
-  module _ {m : ℕ} (e : c ≡ checked.Value m) (y : Ready text work b n start size) where
+  module _ {m : ℕ} (e : c ≡ Ok m) (y : Ready text work b n start size) where
     pub path_few : m ≤ 1048576
     path_few = omega (arith, (path_holds e).few, y.inside, y.short)
 
@@ -317,14 +293,14 @@ module _ {text work middle : List ℕ} {b : Bases} {n : Counts} {start size : �
 
   module _ {work' : List ℕ} (s : SortIs text start size (sort.Path kind)) where
     -- the line is refused
-    pub p_refused : {k : ℕ} → c ≡ checked.Refused k → AddedIs text work work' b n start size (Refused k)
+    pub p_refused : {k : Reason} → c ≡ Err k → AddedIs text work work' b n start size (Err k)
     unfolding read_as
-    p_refused e = let r : PathRefused text start size kind _ = rw e at h.says in record { says = record { read = s.is _ ∙ r.read } }
+    p_refused e = let r = rw e at h.says in record { says = record { read = s.is _ ∙ r.read } }
 
     -- the row is put into the table, behind the steps
-    pub p_added : {m : ℕ} {counts : Counts} → c ≡ checked.Value m → Ready text work b n start size →
+    pub p_added : {m : ℕ} {counts : Counts} → c ≡ Ok m → Ready text work b n start size →
         work' ≡ sets middle (b.paths + 5 * n.paths) (kind_word kind ∷ start ∷ size ∷ n.steps ∷ (n.steps + m - n.steps) ∷ []) →
-        counts ≡ one_more n 0 0 1 m → AddedIs text work work' b n start size (Rows (Path (record { 0 = n.paths })) counts)
+        counts ≡ one_more n 0 0 1 m → AddedIs text work work' b n start size (Ok (Path (record { 0 = n.paths }), counts))
     unfolding read_as entry_of
     p_added {m} e y q more =
         let p = path_holds e in
@@ -399,8 +375,8 @@ module _ {middle work' : List ℕ} (text : List ℕ) (b : Bases) (n m : Counts) 
   entry_kept (Other l) o r = (refl, r)
 
 -- what is said of a line, by the cases
-module _ {text work middle : List ℕ} {b : Bases} {n : Counts} {start size : ℕ} {a : Added} (y : Ready text work b n start size) (h : AddedIs text work middle b n start size a) where
-  pub line_refused : {k : ℕ} {work' : List ℕ} → a ≡ Refused k → LineRead text work work' b n start size a
+module _ {text work middle : List ℕ} {b : Bases} {n : Counts} {start size : ℕ} {a : Result (Record × Counts) Reason} (y : Ready text work b n start size) (h : AddedIs text work middle b n start size a) where
+  pub line_refused : {k : Reason} {work' : List ℕ} → a ≡ Err k → LineRead text work work' b n start size a
   line_refused e = rw e (record { says = rw e at h.says; held = tt })
 
   -- a record whose steps are in the table leaves room
@@ -414,7 +390,7 @@ module _ {text work middle : List ℕ} {b : Bases} {n : Counts} {start size : �
       omega (arith, y.room)
 
   -- the record's entry is put into the line table
-  pub line_entered : {r : Record} {m : Counts} {work' : List ℕ} → a ≡ Rows r m → work' ≡ sets middle (b.lines + 3 * n.lines) (words_of r) → LineRead text work work' b n start size (Rows r m)
+  pub line_entered : {r : Record} {m : Counts} {work' : List ℕ} → a ≡ Ok (r, m) → work' ≡ sets middle (b.lines + 3 * n.lines) (words_of r) → LineRead text work work' b n start size (Ok (r, m))
   line_entered {r} {m} {work'} f q =
       let e = rw f at h.says in
       let at = b.lines + 3 * n.lines in

@@ -88,3 +88,6 @@ module _ {text : List ℕ} {start size tab : ℕ} (first : FirstIs text 9 start 
       SortIs text start size Other
   unfolding parse_fields read_as
   sort_other e p q r s t = record { is = λ ids. by_fields ids ∙ simp (no_byte e 72 p, no_byte e 83 q, no_byte e 76 r, no_byte e 80 s, no_byte e 87 t); letter = tt }
+
+-- what the sort of a line is told by
+pub ruleset sorting = (sort_blank, sort_comment, sort_long, sort_header, sort_segment, sort_link, sort_path, sort_walk, sort_other)

@@ -1,10 +1,11 @@
 -- What the reader does with a line. Document 01, the refusals 5 to 17.
+use Rattle.std.specs.Prelude.{Result, Ok, Err}
+use Rattle.refusals.specs.declared.reason.Reason.{Reason}
+use Rattle.refusals.specs.Reasons.{number_of}
 use Rattle.std.specs.Prelude.{ℕ, suc, ◌+◌, ◌*◌, ◌≤◌, ◌<◌, List, [], ◌∷◌, ◌≡◌, length}
 use Rattle.tables.specs.declared.entry.Record.{Record}
 use Rattle.tables.specs.declared.tables.Bases.{Bases}
 use Rattle.tables.specs.declared.tables.Counts.{Counts}
-use Rattle.lines.specs.declared.added.Added.{Added}
-use Rattle.lines.specs.declared.added.Added.TheVariants.{Rows, Refused}
 use Rattle.gfa_spec.specs.Bytes.{part}
 use Rattle.gfa_spec.specs.Reading.{refused, accepted, parse_line}
 use Rattle.gfa_spec.specs.Runs.{step_count}
@@ -76,20 +77,20 @@ pub record LineRefused (text work : List ℕ) (b : Bases) (n : Counts) (start si
   pub read : parse_line (ids_of (segments_at text work b.segs n.segs)) (part_at text start size) ≡ refused k
 
 -- by the cases of the answer
-abbrev pub AddedSays : List ℕ → List ℕ → List ℕ → Bases → Counts → ℕ → ℕ → Added → Type 0
-AddedSays text work work' b n start size (Rows r m) = Entered text work work' b n start size r m
-AddedSays text work work' b n start size (Refused k) = LineRefused text work b n start size k
+abbrev pub AddedSays : List ℕ → List ℕ → List ℕ → Bases → Counts → ℕ → ℕ → Result (Record × Counts) Reason → Type 0
+AddedSays text work work' b n start size (Ok p) = Entered text work work' b n start size p.0 p.1
+AddedSays text work work' b n start size (Err k) = LineRefused text work b n start size (number_of k)
 
 -- What is said of a line whose record was added.
-pub record AddedIs (text work work' : List ℕ) (b : Bases) (n : Counts) (start size : ℕ) (a : Added) : Type 0 where
+pub record AddedIs (text work work' : List ℕ) (b : Bases) (n : Counts) (start size : ℕ) (a : Result (Record × Counts) Reason) : Type 0 where
   pub says : AddedSays text work work' b n start size a
 
 -- the record stands in the line table too
-abbrev pub Held : List ℕ → Bases → Counts → Added → Type 0
-Held work b n (Rows r m) = record_at work (b.lines + 3 * n.lines) ≡ r
-Held work b n (Refused k) = Unit {0}
+abbrev pub Held : List ℕ → Bases → Counts → Result (Record × Counts) Reason → Type 0
+Held work b n (Ok p) = record_at work (b.lines + 3 * n.lines) ≡ p.0
+Held work b n (Err k) = Unit {0}
 
 -- What is said of a line that was read.
-pub record LineRead (text work work' : List ℕ) (b : Bases) (n : Counts) (start size : ℕ) (a : Added) : Type 0 where
+pub record LineRead (text work work' : List ℕ) (b : Bases) (n : Counts) (start size : ℕ) (a : Result (Record × Counts) Reason) : Type 0 where
   pub says : AddedSays text work work' b n start size a
   pub held : Held work' b n a

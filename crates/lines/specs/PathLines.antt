@@ -1,4 +1,7 @@
 -- What a P or W line says. Document 01, refusals 12 to 17.
+use Rattle.std.specs.Prelude.{Result, Ok, Err}
+use Rattle.refusals.specs.declared.reason.Reason.{Reason}
+use Rattle.refusals.specs.Reasons.{number_of}
 use Rattle.std.specs.Prelude.{ℕ, ◌+◌, ◌*◌, ◌≤◌, List, [], ◌∷◌, ◌≡◌, length}
 use Rattle.gfa_spec.specs.Reading.{path, accepted, refused, fields}
 use Rattle.scan.specs.Places.{part_at}
@@ -8,8 +11,6 @@ use Rattle.tables.specs.declared.tables.Counts.{Counts}
 use Rattle.tables.specs.declared.kinds.PathKind.{PathKind}
 use Rattle.tables.specs.Paths.{kind_in, parse_path, path_fields}
 use Rattle.tables.specs.Steps.{steps_at, StepRow}
-use Rattle.steps.specs.declared.checked.Checked.{Checked}
-use Rattle.steps.specs.declared.checked.Checked.TheVariants as checked
 
 -- The line is accepted, and its m steps stand in the step table, behind the counts n; only their rows changed.
 pub record PathHolds (text work work' : List ℕ) (b : Bases) (n : Counts) (start size : ℕ) (kind : PathKind) (m : ℕ) : Type 0 where
@@ -31,10 +32,10 @@ pub record PathRefused (text : List ℕ) (start size : ℕ) (kind : PathKind) (k
   pub read : parse_path (kind_in kind) (fields (part_at text start size)) ≡ refused k
 
 -- by the cases of the answer
-abbrev pub PathSays : List ℕ → List ℕ → List ℕ → Bases → Counts → ℕ → ℕ → PathKind → Checked → Type 0
-PathSays text work work' b n start size kind (checked.Value m) = PathHolds text work work' b n start size kind m
-PathSays text work work' b n start size kind (checked.Refused k) = PathRefused text start size kind k
+abbrev pub PathSays : List ℕ → List ℕ → List ℕ → Bases → Counts → ℕ → ℕ → PathKind → Result ℕ Reason → Type 0
+PathSays text work work' b n start size kind (Ok m) = PathHolds text work work' b n start size kind m
+PathSays text work work' b n start size kind (Err k) = PathRefused text start size kind (number_of k)
 
 -- What is said of a P or W line whose steps were read.
-pub record PathStepsAre (text work work' : List ℕ) (b : Bases) (n : Counts) (start size : ℕ) (kind : PathKind) (r : Checked) : Type 0 where
+pub record PathStepsAre (text work work' : List ℕ) (b : Bases) (n : Counts) (start size : ℕ) (kind : PathKind) (r : Result ℕ Reason) : Type 0 where
   pub says : PathSays text work work' b n start size kind r

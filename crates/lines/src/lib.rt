@@ -1,7 +1,6 @@
 // A line: its sort, its record, and the rows it is put into.
 #![tactic(auto)]
 
-pub mod added;
 pub mod columns;
 pub mod links;
 pub mod paths;

@@ -1,118 +1,88 @@
 // L lines: checked, and put into the link table.
-ghost use Rattle.std.specs.Prelude.{◌≡◌, ◌+◌, ◌≤◌, ◌<◌, length};
-ghost use Rattle.gfa_spec.specs.Bytes.{part};
-ghost use Rattle.gfa_spec.specs.Reading.{parse_orientation};
-ghost use Rattle.steps.specs.Checked.{checked_of};
+ghost use Rattle.std.specs.Prelude.{◌≡◌, ◌+◌, ◌≤◌, length};
+ghost use Rattle.lines.specs.declared.sort.Sort.TheVariants as Sort;
 ghost use Rattle.lines.specs.Sorts.{SortIs};
 ghost use Rattle.lines.specs.Columns.{HasColumn};
-ghost use Rattle.lines.specs.LinkLines.{EndIs, LinkFieldsAre};
 ghost use Rattle.lines.specs.Lines.{Ready, AddedIs};
+ghost use Rattle.lines.specs.LinkLines.{SignIs, EndIs, LinkFieldsAre};
+ghost use Rattle.refusals.specs.Reasons.{number_of};
+ghost use Rattle.scan.specs.Places.{Inside};
 
-use crate::added::Added;
 use crate::columns::column;
-use crate::sort::Sort;
-use scan::places::{Field, field_at};
-use steps::checked::Checked;
-use steps::p_steps::{is_orientation, wide_byte};
+use refusals::reason::Reason;
+use scan::orientation::Orientation;
+use scan::places::{Place, field_at};
 use tables::entry::{LinkNo, Record};
-use tables::rows::{LinkWords, Place, put_link};
+use tables::rows::{LinkWords, put_link};
 use tables::tables::{Bases, Counts, one_more};
 
-// The orientation that a field says; refused as `n` where it is empty, else as `n + 1`.
-pub fn parse_orientation(text: &[u8], at: usize, size: usize, n: usize) -> Checked
-    requires { (at + size ≤ length text.now) × (n < 100) }
-    ensures { result ≡ checked_of (parse_orientation n (part at size text.now)) }
+// The orientation that a field says: a single + or -. It is refused with one reason where it is empty, and else with the other.
+pub fn parse_orientation(s: &[u8], empty: Reason, other: Reason) -> Result<Orientation, Reason>
+    requires { number_of other ≡ number_of empty + 1 }
+    ensures { SignIs (number_of empty) s.now result }
 {
-    if size == 0 {
-        return Checked::Refused(n);
+    if s.is_empty() {
+        return Err(empty);
     }
-    if 1 < size {
-        return Checked::Refused(n + 1);
+    if 1 < s.len() {
+        return Err(other);
     }
-    let b = text[at];
-    if is_orientation(b) {
-        return Checked::Value(wide_byte(b));
-    }
-    Checked::Refused(n + 1)
+    Orientation::of(s[0]).ok_or(other)
 }
 
-// An end of a link: the place of its segment's name, and its orientation; or the number of the refusal.
-#[derive(Clone, Copy)]
-pub enum End {
-    At(Place, usize),
-    Refused(usize),
-}
-
-// The end whose name is the column `name` and whose orientation is the column `mark`.
-pub fn end_of(text: &[u8], start: usize, size: usize, name: usize, mark: usize, n: usize) -> End
-    requires has_column { HasColumn text.now start size name }
-    requires has_column_2 { HasColumn text.now start size mark }
-    requires n_bound { n < 100 }
-    ensures { EndIs text.now start size name mark n result }
+// An end of a link: the place of its segment's name, which is the column `name`, and its orientation, which is the column `mark`.
+pub fn end_of(
+    text: &[u8],
+    line: Place,
+    name: usize,
+    mark: usize,
+    empty: Reason,
+    other: Reason,
+) -> Result<(Place, Orientation), Reason>
+    requires named { HasColumn text.now line.start line.size name }
+    requires marked { HasColumn text.now line.start line.size mark }
+    requires reasons { number_of other ≡ number_of empty + 1 }
+    ensures { EndIs text.now line.start line.size name mark (number_of empty) result }
 {
-    let p = column(text, start, size, name);
-    let q = column(text, start, size, mark);
-    let read = parse_orientation(text, q.start, q.size, n);
-    match read {
-        Checked::Value(o) => End::At(p, o),
-        Checked::Refused(k) => End::Refused(k),
-    }
+    let place = column(text, line, name);
+    let sign = column(text, line, mark);
+    let orientation = parse_orientation(sign.of(text), empty, other)?;
+    Ok((place, orientation))
 }
 
-// The fields of an L line: the words of its row, or the number of its refusal.
-#[derive(Clone, Copy)]
-pub enum LinkFields {
-    Row(LinkWords),
-    Refused(usize),
-}
-
-// Reads the fields of the L line that starts at `start`.
-pub fn link_fields(text: &[u8], start: usize, size: usize) -> LinkFields
-    requires { start + size ≤ length text.now }
-    ensures { LinkFieldsAre text.now start size result }
+// Reads the fields of an L line: the words of its row.
+pub fn link_fields(text: &[u8], line: Place) -> Result<LinkWords, Reason>
+    requires { Inside text.now line }
+    ensures { LinkFieldsAre text.now line.start line.size result }
 {
-    let Field::Found(_, _) = field_at(text, start, size, 5) else {
-        return LinkFields::Refused(7);
+    let Some(_) = field_at(text, line, 5) else {
+        return Err(Reason::ShortLink);
     };
-    let first = end_of(text, start, size, 1, 2, 8);
-    match first {
-        End::Refused(k) => LinkFields::Refused(k),
-        End::At(from, leaves) => {
-            let second = end_of(text, start, size, 3, 4, 10);
-            match second {
-                End::Refused(k) => LinkFields::Refused(k),
-                End::At(to, enters) => LinkFields::Row(LinkWords {
-                    line: Place { start, size },
-                    from,
-                    leaves,
-                    to,
-                    enters,
-                }),
-            }
-        }
-    }
+    let (from, leaves) = end_of(text, line, 1, 2, Reason::NoFromSign, Reason::BadFromSign)?;
+    let (to, enters) = end_of(text, line, 3, 4, Reason::NoToSign, Reason::BadToSign)?;
+    Ok(LinkWords {
+        line,
+        from,
+        leaves,
+        to,
+        enters,
+    })
 }
 
-// Adds the L line that starts at `start`.
+// Adds an L line: its record, and how many rows there are with it.
 pub fn add_link(
     text: &[u8],
     work: &mut [u32],
     b: Bases,
     n: Counts,
-    start: usize,
-    size: usize,
-) -> Added
-    requires ready { Ready text.now work.old b n start size }
-    requires sort_is { SortIs text.now start size Sort.Link }
-    ensures { AddedIs text.now work.old work.new b n start size result }
+    line: Place,
+) -> Result<(Record, Counts), Reason>
+    requires ready { Ready text.now work.old b n line.start line.size }
+    requires sort_is { SortIs text.now line.start line.size Sort.Link }
+    ensures { AddedIs text.now work.old work.new b n line.start line.size result }
 {
-    let held = link_fields(text, start, size);
-    match held {
-        LinkFields::Refused(k) => Added::Refused(k),
-        LinkFields::Row(row) => {
-            let i = LinkNo(n.links as u32);
-            put_link(work, b, i, row);
-            Added::Rows(Record::Link(i), one_more(n, 0, 1, 0, 0))
-        }
-    }
+    let row = link_fields(text, line)?;
+    let i = LinkNo(n.links as u32);
+    put_link(work, b, i, row);
+    Ok((Record::Link(i), one_more(n, 0, 1, 0, 0)))
 }

@@ -1,67 +1,48 @@
 // S lines: checked, and put into the segment table.
 ghost use Rattle.std.specs.Prelude.{◌+◌, ◌≤◌, length};
+ghost use Rattle.lines.specs.declared.sort.Sort.TheVariants as Sort;
 ghost use Rattle.lines.specs.Sorts.{SortIs};
-ghost use Rattle.lines.specs.SegmentLines.{SegmentFieldsAre};
 ghost use Rattle.lines.specs.Lines.{Ready, AddedIs};
+ghost use Rattle.lines.specs.SegmentLines.{SegmentFieldsAre};
+ghost use Rattle.scan.specs.Places.{Inside};
 
-use crate::added::Added;
 use crate::columns::column;
-use crate::sort::Sort;
-use scan::places::{Field, field_at};
+use refusals::reason::Reason;
+use scan::places::{Place, field_at};
 use tables::entry::{Record, SegmentNo};
-use tables::rows::{Place, SegmentWords, put_segment};
-use tables::segments::{Found, find_segment};
+use tables::rows::{SegmentWords, put_segment};
+use tables::segments::find_segment;
 use tables::tables::{Bases, Counts, one_more};
 
-// The fields of an S line: the words of its row, or that there are too few.
-#[derive(Clone, Copy)]
-pub enum SegmentFields {
-    Row(SegmentWords),
-    Short,
-}
-
-// Reads the fields of the S line that starts at `start`.
-pub fn segment_fields(text: &[u8], start: usize, size: usize) -> SegmentFields
-    requires { start + size ≤ length text.now }
-    ensures { SegmentFieldsAre text.now start size result }
+// Reads the fields of an S line: the words of its row.
+pub fn segment_fields(text: &[u8], line: Place) -> Result<SegmentWords, Reason>
+    requires { Inside text.now line }
+    ensures { SegmentFieldsAre text.now line.start line.size result }
 {
-    let Field::Found(from, long) = field_at(text, start, size, 2) else {
-        return SegmentFields::Short;
+    let Some(sequence) = field_at(text, line, 2) else {
+        return Err(Reason::ShortSegment);
     };
-    let id = column(text, start, size, 1);
-    let sequence = Place {
-        start: from,
-        size: long,
-    };
-    SegmentFields::Row(SegmentWords {
-        line: Place { start, size },
-        id,
-        sequence,
-    })
+    let id = column(text, line, 1);
+    Ok(SegmentWords { line, id, sequence })
 }
 
-// Adds the S line that starts at `start`.
+// Adds an S line: its record, and how many rows there are with it.
 pub fn add_segment(
     text: &[u8],
     work: &mut [u32],
     b: Bases,
     n: Counts,
-    start: usize,
-    size: usize,
-) -> Added
-    requires ready { Ready text.now work.old b n start size }
-    requires sort_is { SortIs text.now start size Sort.Segment }
-    ensures { AddedIs text.now work.old work.new b n start size result }
+    line: Place,
+) -> Result<(Record, Counts), Reason>
+    requires ready { Ready text.now work.old b n line.start line.size }
+    requires sort_is { SortIs text.now line.start line.size Sort.Segment }
+    ensures { AddedIs text.now work.old work.new b n line.start line.size result }
 {
-    let held = segment_fields(text, start, size);
-    let SegmentFields::Row(row) = held else {
-        return Added::Refused(5);
-    };
-    let known = find_segment(text, work, b.segs, n.segs, row.id.start, row.id.size);
-    let Found::Nothing = known else {
-        return Added::Refused(6);
-    };
+    let row = segment_fields(text, line)?;
+    if find_segment(text, work, b, n.segs, row.id).is_some() {
+        return Err(Reason::KnownSegment);
+    }
     let i = SegmentNo(n.segs as u32);
     put_segment(work, b, i, row);
-    Added::Rows(Record::Segment(i), one_more(n, 1, 0, 0, 0))
+    Ok((Record::Segment(i), one_more(n, 1, 0, 0, 0)))
 }

@@ -1,8 +1,8 @@
 // The sort of a line.
-ghost use Rattle.std.specs.Prelude.{◌+◌, ◌≤◌, length};
 ghost use Rattle.lines.specs.Sorts.{SortIs};
+ghost use Rattle.scan.specs.Places.{Inside};
 
-use scan::places::find;
+use scan::places::{Place, find};
 use tables::kinds::PathKind;
 
 // The sorts of lines.
@@ -18,27 +18,28 @@ pub enum Sort {
 }
 
 // The sort of the line that starts at `start`.
-pub fn sort_of(text: &[u8], start: usize, size: usize) -> Sort
-    requires { start + size ≤ length text.now }
-    ensures { SortIs text.now start size result }
+#[tactic(auto, using(crate::proofs::LineSorts::sorting))]
+pub fn sort_of(text: &[u8], line: Place) -> Sort
+    requires { Inside text.now line }
+    ensures { SortIs text.now line.start line.size result }
 {
-    if size == 0 {
+    if line.size == 0 {
         return Sort::Blank;
     }
-    let first = text[start];
-    if first == 35 {
+    let first = text[line.start];
+    if first == b'#' {
         return Sort::Comment;
     }
-    let tab = find(text, 9, start, start + size);
-    if tab != start + 1 {
+    let tab = find(text, b'\t', line.start, line.start + line.size);
+    if tab != line.start + 1 {
         return Sort::Other;
     }
     match first {
-        72 => Sort::Header,
-        83 => Sort::Segment,
-        76 => Sort::Link,
-        80 => Sort::Path(PathKind::P),
-        87 => Sort::Path(PathKind::W),
+        b'H' => Sort::Header,
+        b'S' => Sort::Segment,
+        b'L' => Sort::Link,
+        b'P' => Sort::Path(PathKind::P),
+        b'W' => Sort::Path(PathKind::W),
         _ => Sort::Other,
     }
 }

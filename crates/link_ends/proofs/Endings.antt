@@ -1,32 +1,35 @@
 -- The words of the links' ends. Assumes nothing.
-use Prim.Native.Nat.{ℕ, ◌+◌, ◌-◌, ◌≤◌, ◌<◌}
+use Prim.Native.Nat.{ℕ, ◌+◌, ◌≤◌, ◌<◌}
 use native.Mathlib.Omega.{arith}
-use mathlib.Core.Bool.{Bool, true, false, not, ◌&&◌}
+use mathlib.Core.Bool.{Bool, true, false, not, and-false}
 use mathlib.Core.List.{List, [], ◌∷◌, ◌++◌, map}
-use mathlib.Core.Logic.{◌⊎◌, inl, inr}
-use mathlib.Core.Option.{Option, none, some}
+use mathlib.Core.Logic.{inl}
+use Rattle.std.proofs.Common.{Option, Some, None}
 use mathlib.Core.Path.{◌≡◌, refl, sym, ap, ◌∙◌}
 use lib.Dec.{eqb}
 use lib.ListN.{length, get_or}
-use borrow.Author.Tests.{eq-eqb, ne_eqb, not-true, not-false}
+use borrow.Author.Tests.{not-true, not-false}
 use borrow.Author.Count.{below_more}
-use Rattle.gfa_spec.specs.Bytes.{same, any, count, keep}
+use Rattle.gfa_spec.specs.Bytes.{count, keep}
 use Rattle.gfa_spec.specs.Reading.{Segment, Link}
 use Rattle.gfa_spec.specs.Records.{is_self_link}
 use Rattle.gfa_spec.specs.Runs.{bit}
 use Rattle.gfa_spec.proofs.Tests.{by_test, any_keep}
-use Rattle.gfa_spec.proofs.Counting.{bit_set, count_one, count_append}
+use Rattle.gfa_spec.proofs.Counting.{bit_set, bit_small, bit_byte, count_one, count_append}
 use Rattle.normalize_spec.specs.Folding.{taken}
 use Rattle.normalize_spec.specs.Links.{is_removed}
-use Rattle.scan.specs.Places.{SameIs}
+use Rattle.scan.specs.Places.{bytes_in}
 use Rattle.work.specs.Rows.{Only, word_of}
 use Rattle.work.proofs.Rows.{KeptWords, only_none, only_kept}
 use Rattle.tables.specs.declared.tables.Bases.{Bases}
 use Rattle.tables.specs.declared.tables.Counts.{Counts}
 use Rattle.tables.specs.Segments.{ids_of}
-use Rattle.tables.specs.declared.rows.Place.{Place}
+use Rattle.scan.specs.declared.places.Place.{Place}
+use Rattle.scan.proofs.Orientations.{eq_signs}
+use Rattle.scan.specs.contracts.orientation.Orientation.{the_type}
+use denote.Enum.Bare.{sameb}
 use Rattle.tables.specs.declared.rows.LinkWords.{LinkWords}
-use Rattle.tables.specs.ByNumber.{link_no, segments_of, links_to, bytes_in, Inside, LinkIs, link_of}
+use Rattle.tables.specs.ByNumber.{link_no, segments_of, links_to, LinkIs, link_of}
 use Rattle.tables.proofs.ByNumber.{links_more, link_stands, segments_length, links_zero}
 use Rattle.normalize_tables.specs.declared.layout.Layout.{Layout}
 use Rattle.normalize_tables.specs.declared.layout.Made.{Made}
@@ -37,116 +40,81 @@ use Rattle.normalize_tables.proofs.Sources.{marked_stands, standing}
 use Rattle.normalize_tables.proofs.Numbered.{passes_named, passes_none}
 use Rattle.normalize_tables.proofs.NewByNumber.{ends_joined, ends_stand}
 use Rattle.normalize_tables.proofs.NewsStand.{new_rows_kept, paths_kept, source_kept, names_kept, front_kept}
-use Rattle.new_ids.specs.Ids.{Named, node_as, NodeIs}
-use Rattle.new_ids.specs.declared.ids.Node.{Node}
-use Rattle.new_ids.specs.declared.ids.Node.TheVariants.{At, Nothing}
+use Rattle.new_ids.specs.Ids.{NodeIs}
 use Rattle.normalize_tables.specs.declared.rows.Ends.{Ends}
 use Rattle.normalize_tables.specs.NewByNumber.{ends_no, EndsPut, ends_span}
-use Rattle.link_ends.specs.LinkEnds.{Relinkable, NodeWord, GoneIs, EndsIs, EndsRow, EndsSettled, AllEnds}
-use Rattle.link_ends.proofs.Places.{word_other, word_segment}
+use Rattle.link_ends.specs.LinkEnds.{Relinkable, GoneIs, EndsIs, EndsRow, EndsSettled, AllEnds}
+use Rattle.link_ends.proofs.Places.{place_other, place_segment}
+use Rattle.normalize_tables.proofs.Words.{word_below}
+use Rattle.gfa_spec.proofs.Options.{None-ne-Some}
+use mir.Val.{bool_byte}
 
 -- ---- a node
 
-node_answer : (o : Option ℕ) (k : ℕ) → node_as o ≡ At k → word_of o ≡ k + 1
-unfolding word_of
-node_answer none k e = let z : ◌≡◌ {A = ℕ} 0 1 = cc in absurd (omega arith)
-node_answer (some j) k e = let z : j ≡ k = cc in omega arith
-
-node_nothing : (o : Option ℕ) → node_as o ≡ Nothing → word_of o ≡ 0
-unfolding word_of
-node_nothing none e = refl
-node_nothing (some j) e = let z : ◌≡◌ {A = ℕ} 0 1 = cc in absurd (omega arith)
-
--- a node that was found is one of those that there are
-pub node_below : {text w : List ℕ} {b : Bases} {n : Counts} {g : Layout} {first q k : ℕ} {name : Place} {r : Node} → NodeIs text w b n g first q name r → r ≡ At k → k < n.segs + q
-node_below f e = rw e at f.below
-
-module _ {text w : List ℕ} {b : Bases} {n : Counts} {g : Layout} {m : Made} where
-  pub nodes_named : Relinkable text w b n g m → Named text w b n g m.segs
-  nodes_named s =
-      let p = s.source.placed in
-      let r = s.rows in
-      record { readable = s.source.readable; room = omega (arith, r.half, p.steps, p.added, p.ends, p.room); few = omega (arith, r.half); rows = r.segs }
-
-  module _ {name : Place} {r : Node} (f : NodeIs text w b n g m.first m.segs name r) where
-    pub word_none : r ≡ Nothing → NodeWord text w b n g m name 0
-    word_none e =
-        record {
-          answer = sym (node_nothing (place_of (names_at text w b n g m.first m.segs) (bytes_in text name)) (sym f.answer ∙ e));
-          few = omega arith;
-        }
-
-    pub word_node : {k : ℕ} → r ≡ At k → NodeWord text w b n g m name (k + 1)
-    word_node {k} e =
-        let l = node_below f e in
-        record {
-          answer = sym (node_answer (place_of (names_at text w b n g m.first m.segs) (bytes_in text name)) k (sym f.answer ∙ e));
-          few = omega arith;
-        }
+-- its word is small
+pub node_small : {text w : List ℕ} {b : Bases} {n : Counts} {g : Layout} {first q : ℕ} {name : Place} {r : Option ℕ} → NodeIs text w b n g first q name r → word_of r ≤ n.segs + q
+node_small {n = n} {q = q} {r = r} f = word_below r (n.segs + q) (λ k e. rw e at f.below)
 
 -- ---- a link that is removed
 
-module _ {text w : List ℕ} {b : Bases} {n : Counts} {g : Layout} (l : LinkWords) (from : ℕ) {self : Bool}
-    (q : SameIs text l.from.start l.from.size l.to.start l.to.size self) where
-  pub gone_other : not self ≡ true → GoneIs text w b n g l from 0
-  unfolding is_removed is_self_link bit
-  gone_other e = record { answer = λ p more k f. rw (sym q.answer ∙ not-true self e); few = omega arith; small = omega arith }
+-- What is to be shown of a link: whether it is removed, where the marks and the number of its first node are as they are said.
+abbrev Goes : List ℕ → List ℕ → Bases → Counts → Layout → LinkWords → Option ℕ → Bool → Type 0
+Goes text w b n g l from r = (p : Segment → Bool) (more : List (List ℕ)) → Marked p text w b n g.folded → from ≡ place_of (ids_of (segments_of text w b n) ++ more) (bytes_in text l.from)
+    → is_removed (keep p (segments_of text w b n)) (link_of text l) ≡ r
 
-  pub gone_turned : (l.leaves ≡ l.enters → ⊥) → GoneIs text w b n g l from 0
-  unfolding is_removed bit
-  gone_turned h =
-      record {
-        answer = λ p more k f. rw (ne_eqb l.leaves l.enters h) (by_test (is_self_link (link_of text l)) (λ e. rw e) (λ e. rw e));
-        few = omega arith;
-        small = omega arith;
-      }
+module _ {text w : List ℕ} {b : Bases} {n : Counts} {g : Layout} (l : LinkWords) (from : Option ℕ) where
+  stays : Goes text w b n g l from false → GoneIs text w b n g l from false
+  unfolding bit
+  stays h = record { answer = λ p more k f. sym (h p more k f); few = omega arith }
 
-  module _ (s : Source text w b n g) (t : not self ≡ false) (h : l.leaves ≡ l.enters) where
-    own_ends : is_self_link (link_of text l) ≡ true
-    unfolding is_self_link
-    own_ends = sym q.answer ∙ not-false self t
-
-    -- the rest goes by the folded segments
-    by_folded : (p : Segment → Bool) → is_removed (keep p (segments_of text w b n)) (link_of text l) ≡ any (λ u. p u && same u.id (bytes_in text l.from)) (segments_of text w b n)
+  module _ {self : Bool} (q : self ≡ is_self_link (link_of text l)) where
+    pub gone_other : self ≡ false → GoneIs text w b n g l from self
     unfolding is_removed
-    by_folded p = rw (own_ends, eq-eqb l.leaves l.enters h, any_keep)
+    gone_other e = rw e (stays (λ p more k f. rw (sym q ∙ e)))
 
-    unknown : (from ≡ 0) ⊎ (n.segs < from) → GoneIs text w b n g l from 0
+  module _ {turned : Bool} (d : turned ≡ not (sameb the_type l.leaves l.enters)) where
+    pub gone_turned : turned ≡ true → GoneIs text w b n g l from false
+    unfolding is_removed
+    gone_turned h = stays (λ p more k f. rw (sym (eq_signs l.leaves l.enters) ∙ not-true _ (sym d ∙ h)) (by_test (is_self_link (link_of text l)) (λ e. rw e) (λ e. rw e)))
+
+  module _ (s : Source text w b n g) where
+    -- the first node is no segment of the text
+    unknown : ((k : ℕ) → from ≡ Some k → n.segs ≤ k) → GoneIs text w b n g l from false
+    unfolding is_removed
     unknown z =
-        record {
-          answer = λ p more k f.
-              (let none_so = word_other (segments_of text w b n) more (bytes_in text l.from) f (rw (segments_length text w b n.segs) z) in
-              rw (by_folded p, passes_none text w b n s.apart (bytes_in text l.from) p none_so) (unfold bit in refl));
-          few = omega arith;
-          small = omega arith;
-        }
+        stays (λ p more k f.
+        (let none_so = place_other (segments_of text w b n) more (bytes_in text l.from) (λ j e. rw segments_length (z j (f ∙ e))) in
+        rw (any_keep, passes_none text w b n s.apart (bytes_in text l.from) p none_so) (simp and-false)))
 
-    pub gone_unknown : from ≡ 0 → GoneIs text w b n g l from 0
-    gone_unknown z = unknown (inl z)
+    pub gone_unknown : from ≡ None → GoneIs text w b n g l from false
+    gone_unknown e = unknown (λ k f. absurd (None-ne-Some k (sym e ∙ f)))
 
-    pub gone_new : n.segs < from → GoneIs text w b n g l from 0
-    gone_new z = unknown (inr z)
+    module _ {k : ℕ} (e : from ≡ Some k) where
+      pub gone_new : n.segs ≤ k → GoneIs text w b n g l from false
+      gone_new h = unknown (λ j f. let one : j ≡ k = cc in omega arith)
 
-    module _ (some_word : from ≡ 0 → ⊥) (low : from ≤ n.segs) {mark : ℕ} (em : mark ≡ get_or w (g.folded + (from - 1)) 0) where
-      by_mark : (p : Segment → Bool) (more : List (List ℕ)) → Marked p text w b n g.folded
-          → from ≡ word_of (place_of (ids_of (segments_of text w b n) ++ more) (bytes_in text l.from))
-          → is_removed (keep p (segments_of text w b n)) (link_of text l) ≡ eqb mark 1
-      by_mark p more k f =
-          let number = word_segment (segments_of text w b n) more (bytes_in text l.from) f some_word (rw (segments_length text w b n.segs) low) in
-          by_folded p
-          ∙ passes_named text w b n s.apart (bytes_in text l.from) p (from - 1) number (omega arith)
-          ∙ rw (em, k.mark (from - 1) (omega arith), bit_set)
+      -- the mark decides
+      module _ (low : k < n.segs) {self turned : Bool} {mark : ℕ} (q : self ≡ is_self_link (link_of text l)) (t : self ≡ true) (d : turned ≡ not (sameb the_type l.leaves l.enters)) (h : turned ≡ false)
+          (m : mark ≡ get_or w (g.folded + k) 0) where
+        by_mark : Goes text w b n g l from (eqb mark 1)
+        unfolding is_removed
+        by_mark p more x f =
+            let number = place_segment (segments_of text w b n) more (bytes_in text l.from) k (sym f ∙ e) (rw segments_length low) in
+            rw (sym q ∙ t, sym (eq_signs l.leaves l.enters) ∙ not-false _ (sym d ∙ h), any_keep)
+            (passes_named text w b n s.apart (bytes_in text l.from) p k number low ∙ rw (m, x.mark k low, bit_set))
 
-      pub gone_unmarked : (mark ≡ 1 → ⊥) → GoneIs text w b n g l from 0
-      gone_unmarked z = record { answer = λ p more k f. rw (by_mark p more k f, ne_eqb mark 1 z) (unfold bit in refl); few = omega arith; small = omega arith }
+        pub gone_marked : GoneIs text w b n g l from (eqb mark 1)
+        gone_marked = record { answer = λ p more x f. sym (by_mark p more x f); few = rw (sym q ∙ t) (unfold bit in bit_small (eqb mark 1)) }
 
-      pub gone_marked : mark ≡ 1 → GoneIs text w b n g l from 1
-      gone_marked z =
-          record {
-            answer = λ p more k f. rw (by_mark p more k f, eq-eqb mark 1 z) (unfold bit in refl);
-            few = rw own_ends (unfold bit in omega arith);
-            small = omega arith;
-          }
+-- the ends, by the searches for their nodes
+pub ends_are : {text w : List ℕ} {b : Bases} {n : Counts} {g : Layout} {m : Made} {l : LinkWords} {from to : Option ℕ} {gone : Bool} → Relinkable text w b n g m
+    → NodeIs text w b n g m.first m.segs l.from from → NodeIs text w b n g m.first m.segs l.to to → GoneIs text w b n g l from gone
+    → EndsIs text w b n g m l (record { from = from; to = to; gone = gone })
+ends_are s f t d =
+    let few = s.source.readable.few in
+    let rows = s.rows in
+    let room = s.source.placed.room in
+    record { from = f; to = t; gone = d; small = (omega (arith, node_small f), omega (arith, node_small t)); room = omega arith }
 
 -- ---- what is kept
 
@@ -170,12 +138,6 @@ ends_kept k l r =
     record { from = ap (λ e. e.from) k ∙ r.from ∙ rw l; to = ap (λ e. e.to) k ∙ r.to ∙ rw l; gone = ap (λ e. e.gone) k ∙ r.gone ∙ rw l }
 
 -- ---- a link
-
--- its three words
-pub ends_are : {text w : List ℕ} {b : Bases} {n : Counts} {g : Layout} {m : Made} {l : LinkWords} {from to gone : ℕ} → Relinkable text w b n g m × Inside text l.from × Inside text l.to
-    → NodeWord text w b n g m l.from from → NodeWord text w b n g m l.to to → GoneIs text w b n g l from gone
-    → EndsIs text w b n g m l (record { from = from; to = to; gone = gone })
-ends_are s f t q = record { from = f; to = t; gone = q; small = (omega arith, (omega arith, (omega arith, tt))); room = s.0.source.placed.room }
 
 module _ {text w w' : List ℕ} {b : Bases} {n : Counts} {g : Layout} {m : Made} {i : ℕ} {l : LinkWords} {r : Ends} (s : Relinkable text w b n g m × (i < n.links))
     (here : LinkIs text w b i l) (q : EndsIs text w b n g m l r) (put : EndsPut w w' g i r) where
@@ -202,7 +164,6 @@ module _ {text w w' : List ℕ} {b : Bases} {n : Counts} {g : Layout} {m : Made}
         row = settled_row;
         answer = sym (ap (λ e. e.gone) put.words);
         few = rw here.link q.gone.few;
-        small = q.gone.small;
         long = put.long;
         only = put.only;
       }
@@ -247,7 +208,7 @@ module _ {text before : List ℕ} {b : Bases} {n : Counts} {g : Layout} {m : Mad
     ending_kept : KeptWords 0 g.added before work
     ending_kept = let p = s.relinkable.source.placed in only_kept 0 g.added s.only (inl (omega arith), tt)
 
-    module _ {work' : List ℕ} {r : ℕ} (h : i < n.links) (q : EndsSettled text work work' b n g m i r) where
+    module _ {work' : List ℕ} {r : Bool} {x : ℕ} (h : i < n.links) (q : EndsSettled text work work' b n g m i r) (e : x ≡ bool_byte r) where
       src : Source text before b n g
       src = s.relinkable.source
 
@@ -271,25 +232,26 @@ module _ {text before : List ℕ} {b : Bases} {n : Counts} {g : Layout} {m : Mad
           let now = s.ready.source in
           ends_kept (ends_stand g j q.only (inl (omega arith))) (link_stands now.readable (front_kept now later_kept) j (omega arith)) row
 
-      gone_here : (p : Segment → Bool) → Marked p text before b n g.folded → r ≡ bit (is_removed (keep p (segments_of text before b n)) (link_no text before b i))
+      gone_here : (p : Segment → Bool) → Marked p text before b n g.folded → r ≡ is_removed (keep p (segments_of text before b n)) (link_no text before b i)
       gone_here p k =
           let now = s.ready.source in
           q.answer ∙ (new_row p k).gone ∙ rw (link_stands now.readable (front_kept now later_kept) i h, same_link)
 
-      few_here : r ≤ bit (is_self_link (link_no text before b i))
+      few_here : bit r ≤ bit (is_self_link (link_no text before b i))
       few_here = rw same_link at q.few
 
-      pub ending_more : Ending text before work' b n g m (removed + r) (i + 1)
+      pub ending_more : Ending text before work' b n g m (removed + x) (i + 1)
       ending_more =
+          let y = bit_byte r e in
           record {
             relinkable = s.relinkable;
             ready = q.ready;
             high = omega arith;
             rows = λ p k. below_more (λ j. EndsRow text (names_at text before b n g m.first m.segs) (keep p (segments_of text before b n)) work' b g j) i
                 (λ j l. old_row j l (s.rows p k j l)) (new_row p k);
-            counted = λ p k. rw (count_more, s.counted p k, gone_here p k);
-            few = rw (count_more is_self_link text before b i) (omega (arith, s.few, few_here));
-            small = omega (arith, s.small, q.small);
+            counted = λ p k. rw (count_more, s.counted p k, y.0, gone_here p k);
+            few = rw (count_more is_self_link text before b i) (omega (arith, s.few, few_here, y.0));
+            small = omega (arith, s.small, y.1);
             long = q.long ∙ s.long;
             only = ends_joined g i s.only q.only;
           }

@@ -1,106 +1,88 @@
--- Nodes by the places of their names, as words. Assumes nothing.
-use Prim.Native.Nat.{ℕ, zero, suc, ◌-◌, ◌≤◌, ◌<◌}
+-- Nodes by the places of their names. Assumes nothing.
+use Prim.Native.Nat.{ℕ, zero, suc, ◌≤◌, ◌<◌}
 use native.Mathlib.Omega.{arith}
 use mathlib.Core.Bool.{true, false, not}
 use mathlib.Core.List.{List, [], ◌∷◌, ◌++◌}
-use mathlib.Core.Logic.{◌⊎◌, inl, inr, ⊎_elim}
-use mathlib.Core.Option.{Option, none, some, map}
+use Rattle.std.specs.Prelude.{Option, option_map, None, Some}
+use Rattle.std.specs.Option.{option_eq}
 use mathlib.Core.Path.{◌≡◌, refl, sym, ◌∙◌}
 use lib.Dec.{eqb, eqb-zero-suc, eqb-suc-zero, eqb-suc-suc}
-use lib.ListN.{length}
+use lib.ListN.{length, length-map}
+use borrow.Author.Tests.{eq-eqb}
 use Rattle.gfa_spec.specs.Bytes.{same, any, nth, distinct}
 use Rattle.gfa_spec.specs.Reading.{Segment}
 use Rattle.gfa_spec.specs.Records.{segment_number}
+use Rattle.gfa_spec.proofs.Options.{Some-injective, None-ne-Some, Some-ne-None}
 use Rattle.gfa_spec.proofs.Tests.{by_test, and_right, same_equal}
 use Rattle.gfa_spec.proofs.Counting.{map_none, map_some}
 use Rattle.tables.specs.Segments.{ids_of}
 use Rattle.normalize_tables.specs.News.{place_of}
 use Rattle.normalize_tables.proofs.Nodes.{same_place}
-use Rattle.work.specs.Rows.{word_of}
+use Rattle.new_ids.proofs.Finding.{place_number, place_front}
 
--- ---- words
+-- ---- places
 
-first_word : (o : Option ℕ) → eqb 1 (word_of (map suc o)) ≡ false
-unfolding word_of
-first_word none = refl
-first_word (some k) = eqb-suc-suc 0 (suc k) ∙ eqb-zero-suc k
+first_place : (o : Option ℕ) → option_eq eqb (option_map suc o) (Some 0) ≡ false
+first_place None = refl
+first_place (Some k) = eqb-suc-zero k
 
-next_word : (o : Option ℕ) (x : ℕ) → eqb (suc (suc x)) (word_of (map suc o)) ≡ eqb (suc x) (word_of o)
-unfolding word_of
-next_word none x = eqb-suc-zero (suc x) ∙ sym (eqb-suc-zero x)
-next_word (some k) x = eqb-suc-suc (suc x) (suc k)
+next_place : (o : Option ℕ) (x : ℕ) → option_eq eqb (option_map suc o) (Some (suc x)) ≡ option_eq eqb o (Some x)
+next_place None x = refl
+next_place (Some k) x = eqb-suc-suc k x
 
--- In a list without repetition the name at place x is another exactly if that has the word of x.
-pub place_says : (names : List (List ℕ)) (name : List ℕ) (x : ℕ) → distinct names ≡ true → x < length names → same (nth x names []) name ≡ eqb (suc x) (word_of (place_of names name))
-unfolding place_of nth distinct word_of
+-- In a list without repetition the name at place x is another exactly if x is the place of that.
+pub place_says : (names : List (List ℕ)) (name : List ℕ) (x : ℕ) → distinct names ≡ true → x < length names → same (nth x names []) name ≡ option_eq eqb (place_of names name) (Some x)
+unfolding place_of nth distinct
 place_says [] name x d l = absurd (omega arith)
-place_says (y ∷ ys) name zero d l = by_test (same y name) (λ e. rw e) (λ e. rw (e, first_word (place_of ys name)))
+place_says (y ∷ ys) name zero d l = by_test (same y name) (λ e. rw e (sym (eq-eqb 0 0 refl))) (λ e. rw e (sym (first_place (place_of ys name))))
 place_says (y ∷ ys) name (suc x) d l =
     by_test (same y name)
-    (λ e. rw (e, ← same_equal y name e) (same_place (y ∷ ys) (suc x) 0 d l (omega arith) ∙ sym (eqb-suc-suc (suc x) 0)))
-    (λ e. rw (e, next_word (place_of ys name) x) (place_says ys name x (and_right (not (any (same y) ys)) (distinct ys) d) (omega arith)))
+    (λ e. rw (e, ← same_equal y name e) (same_place (y ∷ ys) (suc x) 0 d l (omega arith) ∙ eqb-suc-zero x ∙ sym (eqb-zero-suc x)))
+    (λ e. rw (e, next_place (place_of ys name) x) (place_says ys name x (and_right (not (any (same y) ys)) (distinct ys) d) (omega arith)))
+
+-- a place is within the list
+place_within : (xs : List (List ℕ)) (x : List ℕ) (k : ℕ) → place_of xs x ≡ Some k → k < length xs
+unfolding place_of
+place_within [] x k e = absurd (None-ne-Some k e)
+place_within (y ∷ xs) x k e =
+    by_test (same y x)
+    (λ t. let first : 0 ≡ k = Some-injective 0 k (rw t at e) in omega arith)
+    (λ t. let (j, o, z) = map_some (place_of xs x) k (rw t at e) in omega (arith, place_within xs x j o))
+
+-- a place that only a longer list has is behind the list
+place_behind : (xs ys : List (List ℕ)) (x : List ℕ) (k : ℕ) → place_of xs x ≡ None → place_of (xs ++ ys) x ≡ Some k → length xs ≤ k
+unfolding place_of
+place_behind [] ys x k n e = omega arith
+place_behind (y ∷ xs) ys x k n e =
+    by_test (same y x)
+    (λ t. absurd (Some-ne-None 0 (rw t at n)))
+    (λ t. let (j, o, z) = map_some (place_of (xs ++ ys) x) k (rw t at e) in omega (arith, place_behind xs ys x j (map_none (place_of xs x) (rw t at n)) o))
 
 -- ---- the segments of the text
 
-word_suc : (o : Option ℕ) (k : ℕ) → word_of o ≡ suc k → word_of (map suc o) ≡ suc (suc k)
-unfolding word_of
-word_suc none k e = absurd (omega arith)
-word_suc (some j) k e = cc
+by_number : {P : Type 0} (o : Option ℕ) → (o ≡ None → P) → ((k : ℕ) → o ≡ Some k → P) → P
+by_number None f h = f refl
+by_number (Some k) f h = h k refl
 
-word_zero : (o : Option ℕ) → word_of o ≡ 0 → word_of (map suc o) ≡ 0
-unfolding word_of
-word_zero none e = refl
-word_zero (some j) e = absurd (omega arith)
+module _ (ss : List Segment) (more : List (List ℕ)) (name : List ℕ) where
+  as_place : {o : Option ℕ} → segment_number ss name ≡ o → place_of (ids_of ss) name ≡ o
+  unfolding ids_of
+  as_place e = place_number ss name ∙ e
 
-word_above : (o : Option ℕ) (k : ℕ) → k < word_of o → suc k < word_of (map suc o)
-unfolding word_of
-word_above none k h = absurd (omega arith)
-word_above (some j) k h = omega arith
+  many : length (ids_of ss) ≡ length ss
+  unfolding ids_of
+  many = length-map ss _
 
--- the word of a name that a segment has is that of the segment's number
-word_known : (ss : List Segment) (more : List (List ℕ)) (name : List ℕ) (k : ℕ) → segment_number ss name ≡ some k → (word_of (place_of (ids_of ss ++ more) name) ≡ suc k) × (k < length ss)
-unfolding segment_number ids_of place_of
-word_known [] more name k e = let z : ◌≡◌ {A = ℕ} 0 1 = cc in absurd (omega arith)
-word_known (s ∷ ss) more name k e =
-    by_test (same s.id name)
-    (λ t. let z : 0 ≡ k = cc (rw t at e) in rw (t, ← z) (unfold word_of in (refl, omega arith)))
-    (λ t.
-    let (j, o, z) = map_some (segment_number ss name) k (rw t at e) in
-    let r = word_known ss more name j o in
-    rw (t, z) (word_suc (place_of (ids_of ss ++ more) name) j r.0, omega (arith, r.1)))
-
--- the word of another name is 0, or behind those of the segments
-word_unknown : (ss : List Segment) (more : List (List ℕ)) (name : List ℕ) → segment_number ss name ≡ none
-    → (word_of (place_of (ids_of ss ++ more) name) ≡ 0) ⊎ (length ss < word_of (place_of (ids_of ss ++ more) name))
-unfolding segment_number ids_of place_of
-word_unknown [] more name e = go (place_of more name)
-  where
-    go : (o : Option ℕ) → (word_of o ≡ 0) ⊎ (0 < word_of o)
-    go none = inl (unfold word_of in refl)
-    go (some k) = inr (unfold word_of in omega arith)
-word_unknown (s ∷ ss) more name e =
-    by_test (same s.id name)
-    (λ t. let z : ◌≡◌ {A = ℕ} 0 1 = cc (rw t at e) in absurd (omega arith))
-    (λ t. rw t (⊎_elim
-    (λ z. inl (word_zero (place_of (ids_of ss ++ more) name) z))
-    (λ z. inr (word_above (place_of (ids_of ss ++ more) name) (length ss) z))
-    (word_unknown ss more name (map_none (segment_number ss name) (rw t at e)))))
-
-by_number : {P : Type 0} (o : Option ℕ) → (o ≡ none → P) → ((k : ℕ) → o ≡ some k → P) → P
-by_number none f h = f refl
-by_number (some k) f h = h k refl
-
-module _ (ss : List Segment) (more : List (List ℕ)) (name : List ℕ) {w : ℕ} (e : w ≡ word_of (place_of (ids_of ss ++ more) name)) where
-  -- a word that is 0, or behind those of the segments, is no segment's
-  pub word_other : (w ≡ 0) ⊎ (length ss < w) → segment_number ss name ≡ none
-  word_other h =
+  -- a name whose place is none of the segments' is no segment's
+  pub place_other : ((k : ℕ) → place_of (ids_of ss ++ more) name ≡ Some k → length ss ≤ k) → segment_number ss name ≡ None
+  place_other h =
       by_number (segment_number ss name)
       (λ o. o)
-      (λ k o. (let r = word_known ss more name k o in absurd (⊎_elim (λ z. omega (arith, r.0, r.1)) (λ z. omega (arith, r.0, r.1)) h)))
+      (λ k o. (let l = h k (place_front (ids_of ss) more name k (as_place o)) in absurd (omega (arith, place_within (ids_of ss) name k (as_place o), many))))
 
-  -- any other is that of a segment
-  pub word_segment : (w ≡ 0 → ⊥) → w ≤ length ss → segment_number ss name ≡ some (w - 1)
-  word_segment p q =
+  -- any other place is that of a segment
+  pub place_segment : (k : ℕ) → place_of (ids_of ss ++ more) name ≡ Some k → k < length ss → segment_number ss name ≡ Some k
+  place_segment k e l =
       by_number (segment_number ss name)
-      (λ o. absurd (⊎_elim (λ z. p (e ∙ z)) (λ z. omega arith) (word_unknown ss more name o)))
-      (λ k o. (let r = word_known ss more name k o in let z : w - 1 ≡ k = omega (arith, r.0) in rw z o))
+      (λ o. absurd (omega (arith, place_behind (ids_of ss) more name k (as_place o) e, many)))
+      (λ j o. o ∙ sym (place_front (ids_of ss) more name j (as_place o)) ∙ e)

@@ -1,17 +1,17 @@
 -- The ends of links as node numbers, and which links are removed. Document 01, "Folding", rule 6.
-use Rattle.std.specs.Prelude.{ℕ, ◌+◌, ◌≤◌, ◌<◌, Bool, true, List, [], ◌∷◌, ◌++◌, map, ◌≡◌, length}
+use Rattle.std.specs.Prelude.{ℕ, ◌+◌, ◌≤◌, ◌<◌, Bool, true, Option, List, [], ◌∷◌, ◌++◌, map, ◌≡◌, length}
 use Rattle.gfa_spec.specs.Bytes.{count, keep, sum, distinct}
 use Rattle.gfa_spec.specs.Reading.{Segment}
 use Rattle.gfa_spec.specs.Records.{is_self_link}
 use Rattle.gfa_spec.specs.Runs.{bit}
 use Rattle.normalize_spec.specs.Links.{is_removed}
-use Rattle.work.specs.Rows.{Small, Only, word_of}
+use Rattle.work.specs.Rows.{Only, word_of}
 use Rattle.tables.specs.declared.tables.Bases.{Bases}
 use Rattle.tables.specs.declared.tables.Counts.{Counts}
 use Rattle.tables.specs.Segments.{ids_of}
-use Rattle.tables.specs.declared.rows.Place.{Place}
+use Rattle.scan.specs.Places.{bytes_in}
 use Rattle.tables.specs.declared.rows.LinkWords.{LinkWords}
-use Rattle.tables.specs.ByNumber.{link_no, segments_of, links_to, bytes_in, link_of}
+use Rattle.tables.specs.ByNumber.{link_no, segments_of, links_to, link_of}
 use Rattle.normalize_tables.specs.declared.layout.Layout.{Layout}
 use Rattle.normalize_tables.specs.declared.layout.Made.{Made}
 use Rattle.normalize_tables.specs.Layout.{Source}
@@ -20,6 +20,7 @@ use Rattle.normalize_tables.specs.News.{names_at, place_of}
 use Rattle.normalize_tables.specs.NewByNumber.{new_paths_to, ends_no, EndsRoom, ends_span}
 use Rattle.normalize_tables.specs.Rewritten.{NewRows}
 use Rattle.normalize_tables.specs.declared.rows.Ends.{Ends}
+use Rattle.new_ids.specs.Ids.{NodeIs}
 
 -- ---- what is asked
 
@@ -33,41 +34,34 @@ pub record Relinkable (text work : List ℕ) (b : Bases) (n : Counts) (g : Layou
 
 -- ---- the ends of a link
 
--- The word for the node that has the name.
-pub record NodeWord (text work : List ℕ) (b : Bases) (n : Counts) (g : Layout) (m : Made) (name : Place) (r : ℕ) : Type 0 where
-  pub answer : r ≡ word_of (place_of (names_at text work b n g m.first m.segs) (bytes_in text name))
-  pub few : r ≤ n.segs + m.segs
-
--- 1 where the link, whose first node has the word `from`, is removed, else 0.
-pub record GoneIs (text work : List ℕ) (b : Bases) (n : Counts) (g : Layout) (l : LinkWords) (from r : ℕ) : Type 0 where
+-- Is the link, whose first node has the number `from`, removed?
+pub record GoneIs (text work : List ℕ) (b : Bases) (n : Counts) (g : Layout) (l : LinkWords) (from : Option ℕ) (r : Bool) : Type 0 where
   pub answer : (p : Segment → Bool) (more : List (List ℕ)) → Marked p text work b n g.folded
-      → from ≡ word_of (place_of (ids_of (segments_of text work b n) ++ more) (bytes_in text l.from))
-      → r ≡ bit (is_removed (keep p (segments_of text work b n)) (link_of text l))
-  pub few : r ≤ bit (is_self_link (link_of text l))
-  pub small : r ≤ 1
+      → from ≡ place_of (ids_of (segments_of text work b n) ++ more) (bytes_in text l.from)
+      → r ≡ is_removed (keep p (segments_of text work b n)) (link_of text l)
+  pub few : bit r ≤ bit (is_self_link (link_of text l))
 
--- The three words of a link, each small.
+-- The ends of a link; their words are small.
 pub record EndsIs (text work : List ℕ) (b : Bases) (n : Counts) (g : Layout) (m : Made) (l : LinkWords) (r : Ends) : Type 0 where
-  pub from : NodeWord text work b n g m l.from r.from
-  pub to : NodeWord text work b n g m l.to r.to
+  pub from : NodeIs text work b n g m.first m.segs l.from r.from
+  pub to : NodeIs text work b n g m.first m.segs l.to r.to
   pub gone : GoneIs text work b n g l r.from r.gone
-  pub small : Small (r.from ∷ r.to ∷ r.gone ∷ [])
+  pub small : (word_of r.from < 4294967296) × (word_of r.to < 4294967296)
   pub room : EndsRoom work g n.links
 
--- What the row of link i says: the words for its nodes, and 1 where it is removed.
+-- What the row of link i says: its nodes, and whether it is removed.
 pub record EndsRow (text : List ℕ) (names : List (List ℕ)) (fs : List Segment) (work : List ℕ) (b : Bases) (g : Layout) (i : ℕ) : Type 0 where
-  pub from : (ends_no work g i).from ≡ word_of (place_of names (link_no text work b i).from)
-  pub to : (ends_no work g i).to ≡ word_of (place_of names (link_no text work b i).to)
-  pub gone : (ends_no work g i).gone ≡ bit (is_removed fs (link_no text work b i))
+  pub from : (ends_no work g i).from ≡ place_of names (link_no text work b i).from
+  pub to : (ends_no work g i).to ≡ place_of names (link_no text work b i).to
+  pub gone : (ends_no work g i).gone ≡ is_removed fs (link_no text work b i)
 
--- The words of link i are put; the answer is the third.
-pub record EndsSettled (text before work : List ℕ) (b : Bases) (n : Counts) (g : Layout) (m : Made) (i r : ℕ) : Type 0 where
+-- The words of link i are put; the answer is whether it is removed.
+pub record EndsSettled (text before work : List ℕ) (b : Bases) (n : Counts) (g : Layout) (m : Made) (i : ℕ) (r : Bool) : Type 0 where
   pub ready : Relinkable text work b n g m
   pub row : (p : Segment → Bool) → Marked p text before b n g.folded
       → EndsRow text (names_at text before b n g m.first m.segs) (keep p (segments_of text before b n)) work b g i
   pub answer : r ≡ (ends_no work g i).gone
-  pub few : r ≤ bit (is_self_link (link_no text before b i))
-  pub small : r ≤ 1
+  pub few : bit r ≤ bit (is_self_link (link_no text before b i))
   pub long : length work ≡ length before
   pub only : Only (ends_span g i (i + 1) ∷ []) before work
 

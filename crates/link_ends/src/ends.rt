@@ -1,78 +1,61 @@
 // The ends of the links of the text as node numbers, three words a link, and which links are removed (document 01, "Folding", rule 6).
 ghost use Rattle.std.specs.Prelude.{◌+◌, ◌<◌};
-ghost use Rattle.tables.specs.ByNumber.{Inside};
+ghost use Rattle.scan.specs.Places.{Inside};
 ghost use Rattle.normalize_tables.specs.Layout.{Source};
-ghost use Rattle.link_ends.specs.LinkEnds.{Relinkable, NodeWord, GoneIs, EndsIs, EndsSettled, AllEnds};
+ghost use Rattle.link_ends.specs.LinkEnds.{Relinkable, GoneIs, EndsIs, EndsSettled, AllEnds};
 
-use new_ids::ids::{Node, find_node};
+use new_ids::ids::find_node;
 use normalize_tables::layout::{Area, Layout};
 use normalize_tables::rows::{Ends, put_ends};
-use scan::names::same_name;
+use runs::counts::is_self_link;
 use tables::entry::LinkNo;
-use tables::rows::{LinkWords, Place, link_at};
-use tables::tables::{Bases, Counts};
+use tables::graph::Graph;
+use tables::rows::LinkWords;
 use work::work::word;
 
-// The number plus one of the node that has the name, or 0.
-pub fn node_word(text: &[u8], work: &[u32], a: Area, name: Place) -> usize
-    requires { Relinkable text.now work.now a.b a.n a.g a.m × Inside text.now name }
-    ensures { NodeWord text.now work.now a.b a.n a.g a.m name result }
+// Is the link removed? `from` is the number of its first node.
+pub fn is_gone(graph: &Graph, g: Layout, l: LinkWords, from: Option<usize>) -> bool
+    requires { Source graph.now.text.now graph.now.work.now graph.now.b graph.now.n g × Inside graph.now.text.now l.from × Inside graph.now.text.now l.to }
+    ensures { GoneIs graph.now.text.now graph.now.work.now graph.now.b graph.now.n g l from result }
 {
-    let Node::At(k) = find_node(text, work, a, name) else {
-        return 0;
+    let Some(k) = from else {
+        return false;
     };
-    k + 1
+    if graph.n.segs <= k || l.leaves != l.enters {
+        return false;
+    }
+    is_self_link(graph.text, l) && word(graph.work, g.folded + k) == 1
 }
 
-// 1 where the link is removed, else 0; `from` is the word for its first node.
-pub fn gone_mark(
-    text: &[u8],
-    work: &[u32],
-    b: Bases,
-    n: Counts,
-    g: Layout,
-    l: LinkWords,
-    from: usize,
-) -> usize
-    requires { Source text.now work.now b n g × Inside text.now l.from × Inside text.now l.to }
-    ensures { GoneIs text.now work.now b n g l from result }
-{
-    if !same_name(text, l.from.start, l.from.size, l.to.start, l.to.size) {
-        return 0;
-    }
-    if l.leaves != l.enters {
-        return 0;
-    }
-    if from == 0 {
-        return 0;
-    }
-    if n.segs < from {
-        return 0;
-    }
-    if word(work, g.folded + (from - 1)) != 1 {
-        return 0;
-    }
-    1
-}
-
-// The three words of a link.
+// The ends of a link.
 pub fn ends_of(text: &[u8], work: &[u32], a: Area, l: LinkWords) -> Ends
     requires { Relinkable text.now work.now a.b a.n a.g a.m × Inside text.now l.from × Inside text.now l.to }
     ensures { EndsIs text.now work.now a.b a.n a.g a.m l result }
 {
-    let from = node_word(text, work, a, l.from);
-    let to = node_word(text, work, a, l.to);
-    let gone = gone_mark(text, work, a.b, a.n, a.g, l, from);
+    let graph = Graph {
+        text,
+        work,
+        b: a.b,
+        n: a.n,
+    };
+    let from = find_node(text, work, a, l.from);
+    let to = find_node(text, work, a, l.to);
+    let gone = is_gone(&graph, a.g, l, from);
     Ends { from, to, gone }
 }
 
 // Puts the words of link `i`; answers whether it is removed.
-pub fn settle_ends(text: &[u8], work: &mut [u32], a: Area, i: LinkNo) -> usize
+pub fn settle_ends(text: &[u8], work: &mut [u32], a: Area, i: LinkNo) -> bool
     requires { Relinkable text.now work.old a.b a.n a.g a.m × (i.0 < a.n.links) }
     ensures { EndsSettled text.now work.old work.new a.b a.n a.g a.m i.0 result }
 {
-    let l = link_at(text, work, a.b, a.n, i);
-    let e = ends_of(text, work, a, l);
+    let graph = Graph {
+        text,
+        work,
+        b: a.b,
+        n: a.n,
+    };
+    let e = ends_of(text, work, a, graph.link(i));
     put_ends(work, a.g, i, e);
     e.gone
 }
@@ -83,10 +66,8 @@ pub fn put_all_ends(text: &[u8], work: &mut [u32], a: Area) -> usize
     ensures { AllEnds text.now work.old work.new a.b a.n a.g a.m result }
 {
     let mut removed = 0;
-    let mut i = 0;
-    while i < a.n.links {
-        removed += settle_ends(text, work, a, LinkNo(i as u32));
-        i += 1;
+    for i in 0..a.n.links {
+        removed += usize::from(settle_ends(text, work, a, LinkNo(i as u32)));
     }
     removed
 }

@@ -4,8 +4,7 @@ use native.Mathlib.Numerals.{add-one}
 use native.Mathlib.Omega.{arith}
 use mathlib.Core.Bool.{Bool, true, false, cond}
 use mathlib.Core.List.{List, [], ◌∷◌, ◌++◌, map, append-nil, append_assoc, map-append}
-use mathlib.Core.Option
-use mathlib.Core.Option.{Option, none, some}
+use Rattle.std.specs.Prelude.{Option, None, Some, option_map}
 use mathlib.Core.Path.{◌≡◌, refl, sym, ap, ◌∙◌}
 use lib.ListN.{length, length-map}
 use Rattle.gfa_spec.specs.Bytes.{same, nth}
@@ -14,55 +13,54 @@ use Rattle.gfa_spec.specs.Records.{segment_number}
 use Rattle.gfa_spec.proofs.Each.{nth_map, nth_front}
 use Rattle.gfa_spec.proofs.Tests.{cond_ap, by_test}
 use Rattle.normalize_spec.specs.Folding.{New, taken}
-use Rattle.writers.specs.Writers.{Wrote}
-use Rattle.writers.proofs.Writing.{being}
+use Rattle.writers.specs.declared.writer.Writer.{Writer}
+use Rattle.writers.specs.Writers.{Puts}
+use Rattle.writers.proofs.Writing.{as_piece}
 use Rattle.work.specs.Rows.{rows_at}
 use Rattle.work.proofs.Rows.{rows_nth}
 use Rattle.work.proofs.RowCuts.{rows_split}
 use Rattle.tables.specs.declared.tables.Bases.{Bases}
 use Rattle.tables.specs.declared.tables.Counts.{Counts}
-use Rattle.tables.specs.declared.segments.Found.{Found}
-use Rattle.tables.specs.declared.segments.Found.TheVariants as found
-use Rattle.tables.specs.declared.rows.Place.{Place}
-use Rattle.tables.specs.declared.rows.SegmentWords.{SegmentWords}
-use Rattle.tables.specs.ByNumber.{segment_no, segments_of, bytes_in, SegmentIs, NamedIs}
+use Rattle.tables.specs.declared.entry.SegmentNo.{SegmentNo}
+use Rattle.scan.specs.declared.places.Place.{Place}
+use Rattle.scan.specs.Places.{bytes_in}
+use Rattle.tables.specs.ByNumber.{segment_no, segments_of, NamedIs}
 use Rattle.tables.proofs.ByNumber.{segments_length, segments_nth}
 use Rattle.tables.proofs.Named.{named_number, named_below}
 use Rattle.normalize_tables.specs.declared.layout.Layout.{Layout}
 use Rattle.normalize_tables.specs.News.{new_at, news_at, names_at, place_of}
 use Rattle.normalize_tables.proofs.Nodes.{names_length, names_more}
-use Rattle.new_ids.specs.declared.ids.Node.TheVariants.{At, Nothing}
 use Rattle.new_ids.specs.Ids.{NodeIs}
 
 -- ---- places
 
 -- the place of a segment's ID is the segment's number
-place_number : (ss : List Segment) (x : List ℕ) → place_of (map (λ s. s.id) ss) x ≡ segment_number ss x
+pub place_number : (ss : List Segment) (x : List ℕ) → place_of (map (λ s. s.id) ss) x ≡ segment_number ss x
 unfolding place_of segment_number
 place_number [] x = refl
 place_number (s ∷ ss) x = rw (place_number ss x)
 
 -- a string that has a place has it in a longer list
-place_front : (xs ys : List (List ℕ)) (x : List ℕ) (k : ℕ) → place_of xs x ≡ some k → place_of (xs ++ ys) x ≡ some k
+pub place_front : (xs ys : List (List ℕ)) (x : List ℕ) (k : ℕ) → place_of xs x ≡ Some k → place_of (xs ++ ys) x ≡ Some k
 unfolding place_of
 place_front [] ys x k h = let z : ◌≡◌ {A = ℕ} 0 1 = cc in absurd (omega arith)
 place_front (y ∷ xs) ys x k h = by_test (same y x) (λ e. rw e (rw e at h)) (λ e. rw e (go (place_of xs x) (λ j. place_front xs ys x j) (rw e at h)))
   where
-    go : (o : Option ℕ) → ((j : ℕ) → o ≡ some j → place_of (xs ++ ys) x ≡ some j) → Option.map suc o ≡ some k → Option.map suc (place_of (xs ++ ys) x) ≡ some k
-    go none f e = let z : ◌≡◌ {A = ℕ} 0 1 = cc in absurd (omega arith)
-    go (some j) f e = rw (f j refl) e
+    go : (o : Option ℕ) → ((j : ℕ) → o ≡ Some j → place_of (xs ++ ys) x ≡ Some j) → option_map suc o ≡ Some k → option_map suc (place_of (xs ++ ys) x) ≡ Some k
+    go None f e = let z : ◌≡◌ {A = ℕ} 0 1 = cc in absurd (omega arith)
+    go (Some j) f e = rw (f j refl) e
 
 -- a string that has none has at most the last place of a list with one more
-place_last : (xs : List (List ℕ)) (y x : List ℕ) → place_of xs x ≡ none → place_of (xs ++ (y ∷ [])) x ≡ cond (same y x) (some (length xs)) none
+place_last : (xs : List (List ℕ)) (y x : List ℕ) → place_of xs x ≡ None → place_of (xs ++ (y ∷ [])) x ≡ cond (same y x) (Some (length xs)) None
 unfolding place_of
 place_last [] y x h = refl
 place_last (z ∷ xs) y x h =
     by_test (same z x) (λ e. let w : ◌≡◌ {A = ℕ} 0 1 = cc (rw e at h) in absurd (omega arith))
-    (λ e. rw (e, place_last xs y x (go (place_of xs x) (rw e at h)), cond_ap (Option.map suc)))
+    (λ e. rw (e, place_last xs y x (go (place_of xs x) (rw e at h)), cond_ap (option_map suc)))
   where
-    go : (o : Option ℕ) → Option.map suc o ≡ none → o ≡ none
-    go none e = refl
-    go (some j) e = let w : ◌≡◌ {A = ℕ} 0 1 = cc in absurd (omega arith)
+    go : (o : Option ℕ) → option_map suc o ≡ None → o ≡ None
+    go None e = refl
+    go (Some j) e = let w : ◌≡◌ {A = ℕ} 0 1 = cc in absurd (omega arith)
 
 -- ---- the names
 
@@ -78,7 +76,7 @@ module _ (text work : List ℕ) (b : Bases) (n : Counts) (g : Layout) (first : �
   names_longer j d = rw (rows_split (new_at text b g first) 1 work 0 j d, map-append, append_assoc)
 
   -- a string that has a place among the first names has it among all
-  pub place_still : (j q : ℕ) (x : List ℕ) (k : ℕ) → j ≤ q → place_of (names_at text work b n g first j) x ≡ some k → place_of (names_at text work b n g first q) x ≡ some k
+  pub place_still : (j q : ℕ) (x : List ℕ) (k : ℕ) → j ≤ q → place_of (names_at text work b n g first j) x ≡ Some k → place_of (names_at text work b n g first q) x ≡ Some k
   place_still j q x k l h =
       let more : q ≡ j + (q - j) = omega arith in
       rw (more, names_longer j (q - j)) (place_front (names_at text work b n g first j) _ x k h)
@@ -88,30 +86,25 @@ module _ (text work : List ℕ) (b : Bases) (n : Counts) (g : Layout) (first : �
 -- The state at j: none of the segments and of the first j new ones has the name.
 pub record Seeking (text work : List ℕ) (b : Bases) (n : Counts) (g : Layout) (first q : ℕ) (name : Place) (j : ℕ) : Type 0 where
   pub high : j ≤ q
-  pub none_yet : place_of (names_at text work b n g first j) (bytes_in text name) ≡ none
+  pub none_yet : place_of (names_at text work b n g first j) (bytes_in text name) ≡ None
 
 module _ {text work : List ℕ} {b : Bases} {n : Counts} {g : Layout} {first q : ℕ} {name : Place} where
-  pub seeking_start : segment_number (segments_of text work b n) (bytes_in text name) ≡ none → Seeking text work b n g first q name 0
+  pub seeking_start : segment_number (segments_of text work b n) (bytes_in text name) ≡ None → Seeking text work b n g first q name 0
   seeking_start h = record { high = omega arith; none_yet = rw (names_none text work b n g first, place_number) h }
 
   module _ {j : ℕ} (s : Seeking text work b n g first q name j) (l : j < q) {r : Bool} (e : r ≡ same (new_at text b g first work j).id (bytes_in text name)) where
-    here : place_of (names_at text work b n g first (suc j)) (bytes_in text name) ≡ cond r (some (n.segs + j)) none
+    here : place_of (names_at text work b n g first (suc j)) (bytes_in text name) ≡ cond r (Some (n.segs + j)) None
     here = rw (names_more text work b n g first j, place_last (names_at text work b n g first j) _ _ s.none_yet, ← e, names_length text work b n g first j)
 
-    pub seeking_hit : r ≡ true → NodeIs text work b n g first q name (At (n.segs + j))
+    pub seeking_hit : r ≡ true → NodeIs text work b n g first q name (Some (n.segs + j))
     seeking_hit t =
         record { answer = rw (place_still text work b n g first (suc j) q (bytes_in text name) (n.segs + j) (omega arith) (here ∙ rw t)); below = omega arith }
 
     pub seeking_more : r ≡ false → Seeking text work b n g first q name (j + 1)
     seeking_more t = record { high = omega arith; none_yet = rw add-one (here ∙ rw t) }
 
-  pub seeking_end : {j : ℕ} → Seeking text work b n g first q name j → q ≤ j → NodeIs text work b n g first q name Nothing
-  seeking_end {j} s h =
-      let all : q ≡ j = omega (arith, s.high) in
-      record { answer = rw (all, s.none_yet); below = tt }
-
   -- a segment of the text was found
-  pub seeking_segment : {r : Found} {k : ℕ} → NamedIs text work b n name r → r ≡ found.At (record { 0 = k }) → NodeIs text work b n g first q name (At k)
+  pub seeking_segment : {r : Option SegmentNo} {k : ℕ} → NamedIs text work b n name r → r ≡ Some (record { 0 = k }) → NodeIs text work b n g first q name (Some k)
   seeking_segment {r} {k} f e =
       let number = named_number f e in
       let low = named_below f e in
@@ -119,6 +112,8 @@ module _ {text work : List ℕ} {b : Bases} {n : Counts} {g : Layout} {first q :
         answer = rw (place_still text work b n g first 0 q (bytes_in text name) k (omega arith) (rw (names_none text work b n g first, place_number) number));
         below = omega arith;
       }
+
+pub ruleset seeking = (seeking_start, seeking_hit, seeking_more)
 
 -- ---- a node's ID
 
@@ -156,11 +151,9 @@ module _ (text work : List ℕ) (b : Bases) (n : Counts) (g : Layout) (first q k
       ∙ ap (λ x. x.id) (rows_nth (new_at text b g first) 1 work 0 q (k - n.segs) blank (omega arith) ∙ ap (new_at text b g first work) place)))
 
 -- it was written
-module _ (text work : List ℕ) (b : Bases) (n : Counts) (g : Layout) (first q k : ℕ) {limit at next : ℕ} {out end : List ℕ} where
-  pub front_written : {s : SegmentWords} → k < n.segs → SegmentIs text work b k s → Wrote limit out at (bytes_in text s.id) end next
-      → Wrote limit out at (nth k (names_at text work b n g first q) []) end next
-  front_written l u w = being (sym (ap (λ x. x.id) u.segment) ∙ id_front text work b n g first q k l) w
+module _ (text work : List ℕ) (b : Bases) (n : Counts) (g : Layout) (first q k : ℕ) {w v : Writer} where
+  pub front_written : {id : List ℕ} → k < n.segs → id ≡ (segment_no text work b k).id → Puts w id v → Puts w (nth k (names_at text work b n g first q) []) v
+  front_written l u p = as_piece (u ∙ id_front text work b n g first q k l) p
 
-  pub behind_written : n.segs ≤ k → k < n.segs + q → Wrote limit out at (new_at text b g first work (k - n.segs)).id end next
-      → Wrote limit out at (nth k (names_at text work b n g first q) []) end next
-  behind_written l m w = being (id_behind text work b n g first q k l m) w
+  pub behind_written : n.segs ≤ k → k < n.segs + q → Puts w (new_at text b g first work (k - n.segs)).id v → Puts w (nth k (names_at text work b n g first q) []) v
+  behind_written l m p = as_piece (id_behind text work b n g first q k l m) p

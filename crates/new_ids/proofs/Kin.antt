@@ -5,7 +5,7 @@ use mathlib.Core.Bool.{Bool, true, false, ◌||◌, or-true, or-false}
 use mathlib.Core.List.{List, map, map-append}
 use mathlib.Core.Path.{◌≡◌, refl, sym, ap, ◌∙◌}
 use lib.Dec.{ltb}
-use borrow.Author.Tests.{ltb-false, le-ltb, eqb-true, eq-eqb, ne_eqb, not-true}
+use borrow.Author.Tests.{ltb-false, le-ltb, eqb-true, eq-eqb, not-true}
 use borrow.Author.Count.{below_more}
 use Rattle.gfa_spec.specs.Bytes.{any, same}
 use Rattle.gfa_spec.specs.Decimal.{largest64}
@@ -20,10 +20,10 @@ use Rattle.tables.specs.declared.tables.Bases.{Bases}
 use Rattle.tables.specs.declared.tables.Counts.{Counts}
 use Rattle.tables.specs.Tables.{no_rows}
 use Rattle.tables.specs.Segments.{ids_of}
-use Rattle.tables.specs.declared.rows.Place.{Place}
 use Rattle.tables.specs.declared.rows.SegmentWords.{SegmentWords}
-use Rattle.tables.specs.ByNumber.{segment_no, segments_of, bytes_in, SegmentIs, segments_from}
-use Rattle.tables.proofs.ByNumber.{segments_all, segments_next, segments_none}
+use Rattle.tables.specs.ByNumber.{segment_no, segments_of, SegmentIs, segments_from}
+use Rattle.scan.specs.Places.{bytes_in}
+use Rattle.tables.proofs.ByNumber.{segments_next, segments_none}
 use Rattle.normalize_tables.specs.declared.layout.Layout.{Layout}
 use Rattle.normalize_tables.specs.News.{segment_words, new_at, news_at, names_at, Suffixed}
 use Rattle.normalize_tables.specs.declared.rows.NewSegmentWords.{NewSegmentWords}
@@ -55,24 +55,6 @@ module _ (text work : List ℕ) (b : Bases) (g : Layout) (first : ℕ) (unit : L
   unfolding is_kin
   facts_kin named times units = rw (le-ltb (first + j) largest64 named, eq-eqb _ _ times, equal_same _ _ units)
 
-module _ (text work : List ℕ) (b : Bases) (g : Layout) (first : ℕ) (unit : List ℕ) (count j : ℕ) {t : Bool} (e : t ≡ ltb (first + j) largest64) where
-  -- a segment with a number
-  pub kin_number : t ≡ true → false ≡ is_kin text b g first work unit count j
-  unfolding is_kin
-  kin_number k = rw (← e, k)
-
-  module _ {n : Counts} {r : NewSegmentWords} (k : t ≡ false) (w : NewSegmentIs text work b n g first j r) where
-    -- another run length
-    pub kin_count : (r.count ≡ count → ⊥) → false ≡ is_kin text b g first work unit count j
-    unfolding is_kin
-    kin_count d = rw (← e, k, w.new, ne_eqb _ _ d)
-
-    -- else by the unit
-    pub kin_unit : {s : SegmentWords} {z : Bool} → r.count ≡ count → SegmentIs text work b r.unit.0 s → z ≡ same (sanitized (bytes_in text s.id)) (sanitized unit)
-        → z ≡ is_kin text b g first work unit count j
-    unfolding is_kin
-    kin_unit p u f = rw (← e, k, w.new, eq-eqb _ _ p, u.segment) f
-
 -- ---- the last of them
 
 -- the ID of a new segment is one of the names
@@ -83,54 +65,39 @@ new_there text work b n g first q j l =
     rw (more, names_longer text work b n g first (suc j) (q - suc j), any_append, names_more text work b n g first j, any_append, same_refl, or-true)
 
 -- what was tried, and that there are no more taken names than names
-tried : {text work : List ℕ} {b : Bases} {n : Counts} {g : Layout} {first q : ℕ} {id : Place} {count s : ℕ}
-    → ((j : ℕ) → j < s → any (same (new_name (bytes_in text id) count j)) (names_at text work b n g first q) ≡ true)
-    → ((i : ℕ) → i < q → is_kin text b g first work (bytes_in text id) count i ≡ true → (segment_words work g i).suffix < s) → Tried text work b n g first q id count s
-tried {text} {work} {b} {n} {g} {first} {q} {id} {count} {s} below above =
+tried : {text work : List ℕ} {b : Bases} {n : Counts} {g : Layout} {first q : ℕ} {unit : List ℕ} {count s : ℕ}
+    → ((j : ℕ) → j < s → any (same (new_name unit count j)) (names_at text work b n g first q) ≡ true)
+    → ((i : ℕ) → i < q → is_kin text b g first work unit count i ≡ true → (segment_words work g i).suffix < s) → Tried text work b n g first q unit count s
+tried {text} {work} {b} {n} {g} {first} {q} {unit} {count} {s} below above =
     let names = names_at text work b n g first q in
-    record { below = below; above = above; few = omega (arith, some_free names (bytes_in text id) count s below, names_length text work b n g first q) }
+    record { below = below; above = above; few = omega (arith, some_free names unit count s below, names_length text work b n g first q) }
 
 -- The state at j: no new segment from j on is such a one.
-pub record Backwards (text work : List ℕ) (b : Bases) (g : Layout) (first q : ℕ) (id : Place) (count j : ℕ) : Type 0 where
+pub record Backwards (text work : List ℕ) (b : Bases) (g : Layout) (first q : ℕ) (unit : List ℕ) (count j : ℕ) : Type 0 where
   pub high : j ≤ q
-  pub none_yet : (i : ℕ) → j ≤ i → i < q → is_kin text b g first work (bytes_in text id) count i ≡ false
+  pub none_yet : (i : ℕ) → j ≤ i → i < q → is_kin text b g first work unit count i ≡ false
 
-module _ {text work : List ℕ} {b : Bases} {g : Layout} {first q : ℕ} {id : Place} {count : ℕ} where
-  pub backwards_start : Backwards text work b g first q id count q
-  backwards_start = record { high = omega arith; none_yet = λ i l h. absurd (omega arith) }
-
-  module _ {j : ℕ} {r : Bool} (s : Backwards text work b g first q id count j) (l : 0 < j) (e : r ≡ is_kin text b g first work (bytes_in text id) count (j - 1)) where
-    pub backwards_more : r ≡ false → Backwards text work b g first q id count (j - 1)
-    backwards_more t =
-        record {
-          high = omega (arith, s.high);
-          none_yet = λ i k h. by_order j i (λ m. s.none_yet i m h) (λ m. let last : i ≡ j - 1 = omega arith in rw last (sym e ∙ t));
-        }
-
-    -- the suffix behind its own
-    pub backwards_hit : {n : Counts} {x : NewSegmentWords} → Suffixed text work b n g first q → r ≡ true → NewSegmentIs text work b n g first (j - 1) x
-        → Tried text work b n g first q id count (x.suffix + 1)
-    backwards_hit {n} {x} f t w =
-        let v = x.suffix in
-        let m : v ≡ (segment_words work g (j - 1)).suffix = ap (λ x. x.suffix) w.words in
-        let (named, times, units) = kin_facts text work b g first (bytes_in text id) count (j - 1) (sym e ∙ t) in
-        tried
-        (λ k h.
-        let kin = ap (λ c. new_name (new_at text b g first work (j - 1)).unit c k) times ∙ name_kin _ (bytes_in text id) count k units in
-        rw (← kin) (by_order v k (λ a.
-        let own : k ≡ (segment_words work g (j - 1)).suffix = omega arith in
-        rw (own, ← named_id text work b g first (j - 1) named) (new_there text work b n g first q (j - 1) (omega (arith, s.high))))
-        (λ a. f.taken (j - 1) k (omega (arith, s.high)) named (omega arith))))
-        (λ i h a.
-        let (named', times', units') = kin_facts text work b g first (bytes_in text id) count i a in
-        by_order j i (λ k. clash a (s.none_yet i k h))
-        (λ k. by_order (j - 1) i
-        (λ k'. let last : i ≡ j - 1 = omega arith in rw last (omega arith))
-        (λ k'. omega (arith, f.rising i (j - 1) k' (omega (arith, s.high)) named' (units' ∙ sym units) (times' ∙ sym times)))))
-
-  -- there is none
-  pub backwards_end : {n : Counts} {j : ℕ} → Backwards text work b g first q id count j → j ≤ 0 → Tried text work b n g first q id count 0
-  backwards_end s l = tried (λ k h. absurd (omega arith)) (λ i h a. clash a (s.none_yet i (omega arith) h))
+module _ {text work : List ℕ} {b : Bases} {g : Layout} {first q : ℕ} {unit : List ℕ} {count : ℕ} {j : ℕ} {r : Bool} (s : Backwards text work b g first q unit count j) (l : 0 < j) (e : r ≡ is_kin text b g first work unit count (j - 1)) where
+  -- the suffix behind its own
+  pub backwards_hit : {n : Counts} {x : NewSegmentWords} → Suffixed text work b n g first q → r ≡ true → NewSegmentIs text work b n g first (j - 1) x
+      → Tried text work b n g first q unit count (x.suffix + 1)
+  backwards_hit {n} {x} f t w =
+      let v = x.suffix in
+      let m : v ≡ (segment_words work g (j - 1)).suffix = ap (λ x. x.suffix) w.words in
+      let (named, times, units) = kin_facts text work b g first unit count (j - 1) (sym e ∙ t) in
+      tried
+      (λ k h.
+      let kin = ap (λ c. new_name (new_at text b g first work (j - 1)).unit c k) times ∙ name_kin _ unit count k units in
+      rw (← kin) (by_order v k (λ a.
+      let own : k ≡ (segment_words work g (j - 1)).suffix = omega arith in
+      rw (own, ← named_id text work b g first (j - 1) named) (new_there text work b n g first q (j - 1) (omega (arith, s.high))))
+      (λ a. f.taken (j - 1) k (omega (arith, s.high)) named (omega arith))))
+      (λ i h a.
+      let (named', times', units') = kin_facts text work b g first unit count i a in
+      by_order j i (λ k. clash a (s.none_yet i k h))
+      (λ k. by_order (j - 1) i
+      (λ k'. let last : i ≡ j - 1 = omega arith in rw last (omega arith))
+      (λ k'. omega (arith, f.rising i (j - 1) k' (omega (arith, s.high)) named' (units' ∙ sym units) (times' ∙ sym times)))))
 
 -- ---- the names of the text
 
@@ -139,25 +106,23 @@ pub record Comparing (text work : List ℕ) (b : Bases) (n : Counts) (name : Lis
   pub high : i ≤ n.segs
   pub rest : any (same name) (ids_of (segments_of text work b n)) ≡ any (same name) (ids_of (segments_from text work b n i))
 
-module _ {text work : List ℕ} {b : Bases} {n : Counts} {name : List ℕ} where
-  pub comparing_start : Comparing text work b n name 0
-  comparing_start = record { high = omega arith; rest = ap (λ ss. any (same name) (ids_of ss)) (segments_all text work b n) }
-
-  module _ {i : ℕ} (s : Comparing text work b n name i) where
-    module _ {x : SegmentWords} {r : Bool} (l : i < n.segs) (u : SegmentIs text work b i x) (e : r ≡ same name (bytes_in text x.id)) where
-      step : any (same name) (ids_of (segments_of text work b n)) ≡ (r || any (same name) (ids_of (segments_from text work b n (i + 1))))
-      unfolding any ids_of
-      step = s.rest ∙ rw (segments_next text work b n i l, u.segment, ← e)
-
-      pub comparing_hit : r ≡ true → true ≡ any (same name) (ids_of (segments_of text work b n))
-      comparing_hit t = sym (step ∙ rw t)
-
-      pub comparing_more : r ≡ false → Comparing text work b n name (i + 1)
-      comparing_more t = record { high = omega arith; rest = step ∙ rw t }
-
-    pub comparing_end : n.segs ≤ i → false ≡ any (same name) (ids_of (segments_of text work b n))
+module _ {text work : List ℕ} {b : Bases} {n : Counts} {name : List ℕ} {i : ℕ} (s : Comparing text work b n name i) where
+  module _ {x : SegmentWords} {r : Bool} (l : i < n.segs) (u : SegmentIs text work b i x) (e : r ≡ same name (bytes_in text x.id)) where
+    step : any (same name) (ids_of (segments_of text work b n)) ≡ (r || any (same name) (ids_of (segments_from text work b n (i + 1))))
     unfolding any ids_of
-    comparing_end l = sym (s.rest ∙ rw (segments_none text work b n i l))
+    step = s.rest ∙ rw (segments_next text work b n i l, u.segment, ← e)
+
+    pub comparing_hit : r ≡ true → true ≡ any (same name) (ids_of (segments_of text work b n))
+    comparing_hit t = sym (step ∙ rw t)
+
+    pub comparing_more : r ≡ false → Comparing text work b n name (i + 1)
+    comparing_more t = record { high = omega arith; rest = step ∙ rw t }
+
+  pub comparing_end : n.segs ≤ i → false ≡ any (same name) (ids_of (segments_of text work b n))
+  unfolding any ids_of
+  comparing_end l = sym (s.rest ∙ rw (segments_none text work b n i l))
+
+pub ruleset comparing = (comparing_hit, comparing_more, comparing_end)
 
 -- ---- the first free suffix
 
@@ -169,44 +134,44 @@ none_new p text work b g first zero h = refl
 none_new p text work b g first (suc q) h =
     rw (news_more text work b no_rows g first q, map-append, any_append, none_new p text work b g first q (λ i l. h i (omega arith)), h q (omega arith))
 
-module _ {text work : List ℕ} {b : Bases} {n : Counts} {g : Layout} {first q : ℕ} {id : Place} {count s : ℕ} (h : Tried text work b n g first q id count s) where
+module _ {text work : List ℕ} {b : Bases} {n : Counts} {g : Layout} {first q : ℕ} {unit : List ℕ} {count s : ℕ} (h : Tried text work b n g first q unit count s) where
   -- no new segment has the candidate
-  others : (i : ℕ) → i < q → same (new_name (bytes_in text id) count s) (new_at text b g first work i).id ≡ false
+  others : (i : ℕ) → i < q → same (new_name unit count s) (new_at text b g first work i).id ≡ false
   others i l = by_order largest64 (first + i) named numbered
     where
-      named : largest64 ≤ first + i → same (new_name (bytes_in text id) count s) (new_at text b g first work i).id ≡ false
+      named : largest64 ≤ first + i → same (new_name unit count s) (new_at text b g first work i).id ≡ false
       named k =
           rw (named_id text work b g first i k)
-          (refute (same (new_name (bytes_in text id) count s) (new_name (new_at text b g first work i).unit (new_at text b g first work i).count (segment_words work g i).suffix))
+          (refute (same (new_name unit count s) (new_name (new_at text b g first work i).unit (new_at text b g first work i).count (segment_words work g i).suffix))
           (λ e.
           let (units, times, suffixes) =
-          name_same (bytes_in text id) (new_at text b g first work i).unit count (new_at text b g first work i).count s (segment_words work g i).suffix (same_equal _ _ e) in
-          omega (arith, h.above i l (facts_kin text work b g first (bytes_in text id) count i k (sym times) (sym units)))))
+          name_same unit (new_at text b g first work i).unit count (new_at text b g first work i).count s (segment_words work g i).suffix (same_equal _ _ e) in
+          omega (arith, h.above i l (facts_kin text work b g first unit count i k (sym times) (sym units)))))
 
-      numbered : first + i < largest64 → same (new_name (bytes_in text id) count s) (new_at text b g first work i).id ≡ false
-      numbered k = rw (numbered_id text work b g first i k, same_sym) (number_not_name (first + i) (bytes_in text id) count s)
+      numbered : first + i < largest64 → same (new_name unit count s) (new_at text b g first work i).id ≡ false
+      numbered k = rw (numbered_id text work b g first i k, same_sym) (number_not_name (first + i) unit count s)
 
   -- the names as those of the text and the new ones
-  in_text : {r : Bool} → r ≡ any (same (new_name (bytes_in text id) count s)) (ids_of (segments_of text work b n))
-      → any (same (new_name (bytes_in text id) count s)) (names_at text work b n g first q) ≡ r
+  in_text : {r : Bool} → r ≡ any (same (new_name unit count s)) (ids_of (segments_of text work b n))
+      → any (same (new_name unit count s)) (names_at text work b n g first q) ≡ r
   unfolding names_at taken ids_of
-  in_text e = rw (any_append, ← e, none_new (same (new_name (bytes_in text id) count s)) text work b g first q others) (or-false _)
+  in_text e = rw (any_append, ← e, none_new (same (new_name unit count s)) text work b g first q others) (or-false _)
 
   -- it is taken: the next is to be tried
-  pub tried_more : {r : Bool} → r ≡ any (same (new_name (bytes_in text id) count s)) (ids_of (segments_of text work b n)) → r ≡ true
-      → Tried text work b n g first q id count (s + 1)
+  pub tried_more : {r : Bool} → r ≡ any (same (new_name unit count s)) (ids_of (segments_of text work b n)) → r ≡ true
+      → Tried text work b n g first q unit count (s + 1)
   tried_more e t =
-      tried (below_more (λ j. any (same (new_name (bytes_in text id) count j)) (names_at text work b n g first q) ≡ true) s h.below (in_text e ∙ t))
+      tried (below_more (λ j. any (same (new_name unit count j)) (names_at text work b n g first q) ≡ true) s h.below (in_text e ∙ t))
       (λ i l k. omega (arith, h.above i l k))
 
   -- it is free
-  pub tried_end : {x : SegmentWords} {unit : ℕ} {r : Bool} → SegmentIs text work b unit x → x.id ≡ id
-      → r ≡ any (same (new_name (bytes_in text id) count s)) (ids_of (segments_of text work b n)) → r ≡ false → SuffixIs text work b n g first q unit count s
-  tried_end {unit = unit} u i e t =
-      let same-unit : (segment_no text work b unit).id ≡ bytes_in text id = ap (λ x. x.id) u.segment ∙ rw i in
+  pub tried_end : {no : ℕ} {r : Bool} → unit ≡ (segment_no text work b no).id
+      → r ≡ any (same (new_name unit count s)) (ids_of (segments_of text work b n)) → r ≡ false → SuffixIs text work b n g first q no count s
+  tried_end {no} u e t =
+      let same-unit : (segment_no text work b no).id ≡ unit = sym u in
       record {
-        free = rw same-unit (first_free (names_at text work b n g first q) (bytes_in text id) count s h.below (in_text e ∙ t));
+        free = rw same-unit (first_free (names_at text work b n g first q) unit count s h.below (in_text e ∙ t));
         below = λ j l. rw same-unit (h.below j l);
-        above = λ j l named units times. h.above j l (facts_kin text work b g first (bytes_in text id) count j named times (units ∙ ap sanitized same-unit));
+        above = λ j l named units times. h.above j l (facts_kin text work b g first unit count j named times (units ∙ ap sanitized same-unit));
         few = h.few;
       }

@@ -1,20 +1,18 @@
 -- The IDs of nodes, and the suffixes of new names. Document 01, "Folding", rule 5.
-use Rattle.std.specs.Prelude.{ℕ, ◌+◌, ◌≤◌, ◌<◌, Bool, true, not, ◌&&◌, List, ◌≡◌, eqb, ltb}
-use Rattle.std.proofs.Math.Option.{Option, none, some}
+use Rattle.std.specs.Prelude.{ℕ, ◌+◌, ◌≤◌, ◌<◌, Bool, true, not, ◌&&◌, List, ◌≡◌, eqb, ltb, Option, IfSome}
 use Rattle.gfa_spec.specs.Bytes.{same, any}
 use Rattle.gfa_spec.specs.Decimal.{largest64}
 use Rattle.normalize_spec.specs.Folding.{sanitized, base_name, free_name}
 use Rattle.normalize_spec.specs.NewNames.{new_name}
 use Rattle.tables.specs.declared.tables.Bases.{Bases}
 use Rattle.tables.specs.declared.tables.Counts.{Counts}
-use Rattle.tables.specs.declared.rows.Place.{Place}
-use Rattle.tables.specs.ByNumber.{segment_no, bytes_in}
+use Rattle.scan.specs.declared.places.Place.{Place}
+use Rattle.scan.specs.Places.{bytes_in}
+use Rattle.tables.specs.ByNumber.{segment_no}
 use Rattle.tables.specs.Tables.{Readable}
 use Rattle.normalize_tables.specs.declared.layout.Layout.{Layout}
 use Rattle.normalize_tables.specs.News.{segment_words, new_at, names_at, place_of}
 use Rattle.normalize_tables.specs.NewByNumber.{SegmentRoom, SegmentRows}
-use Rattle.new_ids.specs.declared.ids.Node.{Node}
-use Rattle.new_ids.specs.declared.ids.Node.TheVariants.{At, Nothing}
 
 -- ---- nodes
 
@@ -25,20 +23,10 @@ pub record Named (text work : List ℕ) (b : Bases) (n : Counts) (g : Layout) (q
   pub few : q ≤ n.steps
   pub rows : SegmentRows work n g q
 
--- the answer for a node's number
-abbrev pub node_as : Option ℕ → Node
-node_as none = Nothing
-node_as (some k) = At k
-
--- a node that was found is one of the first n
-abbrev pub NodeBelow : ℕ → Node → Type 0
-NodeBelow n (At k) = k < n
-NodeBelow n Nothing = Unit {0}
-
--- What a search for a name finds: the first node so named.
-pub record NodeIs (text work : List ℕ) (b : Bases) (n : Counts) (g : Layout) (first q : ℕ) (name : Place) (r : Node) : Type 0 where
-  pub answer : r ≡ node_as (place_of (names_at text work b n g first q) (bytes_in text name))
-  pub below : NodeBelow (n.segs + q) r
+-- What a search for a name finds: the number of the first node so named, which is one of those that there are.
+pub record NodeIs (text work : List ℕ) (b : Bases) (n : Counts) (g : Layout) (first q : ℕ) (name : Place) (r : Option ℕ) : Type 0 where
+  pub answer : r ≡ place_of (names_at text work b n g first q) (bytes_in text name)
+  pub below : IfSome r (λ k. k < n.segs + q)
 
 -- ---- suffixes
 
@@ -48,9 +36,9 @@ is_kin text b g first work unit count j =
     not (ltb (first + j) largest64) && (eqb (new_at text b g first work j).count count && same (sanitized (new_at text b g first work j).unit) (sanitized unit))
 
 -- The names of a unit and a run length with suffixes below s are taken, and no new segment has such a name with suffix s or a later one.
-pub record Tried (text work : List ℕ) (b : Bases) (n : Counts) (g : Layout) (first q : ℕ) (id : Place) (count s : ℕ) : Type 0 where
-  pub below : (j : ℕ) → j < s → any (same (new_name (bytes_in text id) count j)) (names_at text work b n g first q) ≡ true
-  pub above : (i : ℕ) → i < q → is_kin text b g first work (bytes_in text id) count i ≡ true → (segment_words work g i).suffix < s
+pub record Tried (text work : List ℕ) (b : Bases) (n : Counts) (g : Layout) (first q : ℕ) (unit : List ℕ) (count s : ℕ) : Type 0 where
+  pub below : (j : ℕ) → j < s → any (same (new_name unit count j)) (names_at text work b n g first q) ≡ true
+  pub above : (i : ℕ) → i < q → is_kin text b g first work unit count i ≡ true → (segment_words work g i).suffix < s
   pub few : s ≤ n.segs + q
 
 -- The first free suffix for a unit, given by its number, and a run length.

@@ -1,108 +1,83 @@
 // Nodes by their numbers: the segments of the text first, in their order, and then the new ones.
-ghost use Rattle.std.specs.Prelude.{◌≡◌, [], ◌+◌, ◌≤◌, ◌<◌, max};
-ghost use Rattle.std.proofs.Math.Option.{none};
+ghost use Rattle.std.specs.Prelude.{◌≡◌, [], ◌+◌, ◌≤◌, ◌<◌};
+ghost use Rattle.std.specs.Prelude.{None};
 ghost use Rattle.gfa_spec.specs.Bytes.{nth};
 ghost use Rattle.gfa_spec.specs.Decimal.{largest64};
 ghost use Rattle.gfa_spec.specs.Records.{segment_number};
-ghost use Rattle.tables.specs.ByNumber.{segments_of, bytes_in, Inside};
-ghost use Rattle.tables.specs.Tables.{Readable};
+ghost use Rattle.scan.specs.Places.{Inside, bytes_in};
+ghost use Rattle.tables.specs.ByNumber.{segments_of};
 ghost use Rattle.normalize_tables.specs.News.{first_number, names_at, Suffixed};
-ghost use Rattle.writers.specs.Writers.{Wrote};
+ghost use Rattle.writers.specs.Writers.{Puts};
 ghost use Rattle.new_ids.specs.Ids.{Named, NodeIs, SuffixIs};
 
 use crate::candidates::{is_taken, next_suffix};
-use crate::rows::{is_new_id, put_new_id};
+use crate::rows::{is_new_id, put_new_id, segment_id};
 use normalize_tables::layout::Area;
-use scan::numbers::{Number, number_of};
+use scan::numbers::number_of;
+use scan::places::Place;
 use tables::entry::SegmentNo;
-use tables::rows::{Place, segment_at, segment_named};
-use tables::segments::Found;
-use tables::tables::{Bases, Counts};
-use writers::bytes::put_bytes;
-
-// The number of the node that has a name, or none.
-#[derive(Clone, Copy)]
-pub enum Node {
-    At(usize),
-    Nothing,
-}
-
-// The larger of two numbers.
-fn larger(a: u64, b: u64) -> u64
-    ensures { result ≡ max a b }
-{
-    if a <= b {
-        return b;
-    }
-    a
-}
+use tables::graph::Graph;
+use writers::writer::Writer;
 
 // The number of the first new segment: the largest ID plus one where every ID reads as a number, else the largest of all, which is none.
-pub fn first_number(text: &[u8], work: &[u32], b: Bases, n: Counts) -> u64
-    requires { Readable text.now work.now b n }
-    ensures { result ≡ first_number (segments_of text.now work.now b n) }
+#[tactic(auto, using(crate::proofs::Largest::growing))]
+pub fn first_number(graph: &Graph) -> u64
+    ensures { result ≡ first_number (segments_of graph.now.text.now graph.now.work.now graph.now.b graph.now.n) }
 {
     let mut largest: u64 = 0;
-    let mut i = 0;
-    while i < n.segs {
-        let s = segment_at(text, work, b, n, SegmentNo(i as u32));
-        let Number::Value(value) = number_of(text, s.id.start, s.id.size) else {
-            return 18446744073709551615;
+    for i in 0..graph.n.segs {
+        let id = graph.segment(SegmentNo(i as u32)).id;
+        let Some(value) = number_of(id.of(graph.text)) else {
+            return u64::MAX;
         };
-        largest = larger(largest, value);
-        i += 1;
+        largest = largest.max(value);
     }
-    if largest == 18446744073709551615 {
-        return 18446744073709551615;
-    }
-    largest + 1
+    largest.saturating_add(1)
 }
 
 // The ID of node k, written.
-pub fn put_id(
-    out: &mut [u8],
-    at: usize,
-    limit: usize,
-    text: &[u8],
-    work: &[u32],
-    a: Area,
-    k: usize,
-) -> usize
+pub fn put_id(w: &mut Writer, text: &[u8], work: &[u32], a: Area, k: usize)
     requires { Named text.now work.now a.b a.n a.g a.m.segs × (k < a.n.segs + a.m.segs) }
-    ensures { Wrote limit out.old at (nth k (names_at text.now work.now a.b a.n a.g a.m.first a.m.segs) []) out.new result }
+    ensures { Puts w.old (nth k (names_at text.now work.now a.b a.n a.g a.m.first a.m.segs) []) w.new }
 {
     if a.n.segs <= k {
-        return put_new_id(out, at, limit, text, work, a, k - a.n.segs);
+        put_new_id(w, text, work, a, k - a.n.segs);
+    } else {
+        w.put(segment_id(text, work, a, SegmentNo(k as u32)));
     }
-    let s = segment_at(text, work, a.b, a.n, SegmentNo(k as u32));
-    put_bytes(out, at, limit, text, s.id.start, s.id.size)
 }
 
-// The new segment that has the name, which no segment of the text has.
-fn find_new(text: &[u8], work: &[u32], a: Area, name: Place) -> Node
+// The number of the new segment that has the name, which no segment of the text has.
+#[tactic(auto, using(crate::proofs::Finding::seeking))]
+fn find_new(text: &[u8], work: &[u32], a: Area, name: Place) -> Option<usize>
     requires named { Named text.now work.now a.b a.n a.g a.m.segs × Inside text.now name }
-    requires name_value { segment_number (segments_of text.now work.now a.b a.n) (bytes_in text.now name) ≡ none }
+    requires name_value { segment_number (segments_of text.now work.now a.b a.n) (bytes_in text.now name) ≡ None }
     ensures { NodeIs text.now work.now a.b a.n a.g a.m.first a.m.segs name result }
 {
-    let mut j = 0;
-    while j < a.m.segs {
-        if is_new_id(text, work, a, j, name) {
-            return Node::At(a.n.segs + j);
+    for j in 0..a.m.segs {
+        if is_new_id(text, work, a, j, name.of(text)) {
+            return Some(a.n.segs + j);
         }
-        j += 1;
     }
-    Node::Nothing
+    None
 }
 
-// The node that has the name: a segment of the text, or a new one.
-pub fn find_node(text: &[u8], work: &[u32], a: Area, name: Place) -> Node
+// The number of the node that has the name: a segment of the text, or a new one.
+#[tactic(auto, using(crate::proofs::Finding::seeking_segment, tables::proofs::Named::unnamed_number))]
+pub fn find_node(text: &[u8], work: &[u32], a: Area, name: Place) -> Option<usize>
     requires { Named text.now work.now a.b a.n a.g a.m.segs × Inside text.now name }
     ensures { NodeIs text.now work.now a.b a.n a.g a.m.first a.m.segs name result }
 {
-    let Found::At(k) = segment_named(text, work, a.b, a.n, name) else {
-        return find_new(text, work, a, name);
+    let graph = Graph {
+        text,
+        work,
+        b: a.b,
+        n: a.n,
     };
-    Node::At(k.0 as usize)
+    match graph.named(name) {
+        Some(k) => Some(k.0 as usize),
+        None => find_new(text, work, a, name),
+    }
 }
 
 // The first suffix with which the name of a unit and a run length is free.
@@ -111,9 +86,16 @@ pub fn free_suffix(text: &[u8], work: &[u32], a: Area, unit: SegmentNo, count: u
     requires unit_lt_segs { (unit.0 < a.n.segs) × (count ≤ a.n.steps) × (largest64 ≤ a.m.first + a.m.segs) }
     ensures { SuffixIs text.now work.now a.b a.n a.g a.m.first a.m.segs unit.0 count result }
 {
-    let s = segment_at(text, work, a.b, a.n, unit);
-    let mut suffix = next_suffix(text, work, a, s.id, count);
-    while is_taken(text, work, a.b, a.n, s.id, count, suffix) {
+    let graph = Graph {
+        text,
+        work,
+        b: a.b,
+        n: a.n,
+    };
+    let id = segment_id(text, work, a, unit);
+    let mut suffix = next_suffix(text, work, a, id, count);
+    // Suffix after suffix, up to the first that is free.
+    while is_taken(&graph, id, count, suffix) {
         suffix += 1;
     }
     suffix

@@ -1,25 +1,25 @@
 -- Laws of new names: how long a number and the tail of a name are, what a buffer holds of them, and how names are compared. Assumes nothing.
-use Prim.Native.Nat.{ℕ, zero, suc, ◌+◌, ◌-◌, ◌*◌, ◌/◌, ◌≤◌, ◌<◌}
+use Prim.Native.Nat.{ℕ, zero, suc, ◌+◌, ◌*◌, ◌/◌, ◌≤◌, ◌<◌}
 use native.Mathlib.Omega.{arith}
-use mathlib.Core.Bool.{Bool, true, false, not, ◌&&◌}
+use mathlib.Core.Bool.{Bool, true, false, ◌&&◌}
 use mathlib.Core.List.{List, [], ◌∷◌, ◌++◌, append_assoc}
 use mathlib.Core.Path.{◌≡◌, refl, sym, ap, ◌∙◌}
 use lib.Dec.{eqb}
-use lib.ListN.{length, take, drop, length-append, length-take}
-use lib.Seq.{take_at, take-add, drop-drop}
-use borrow.Author.Tests.{not-true, not-false}
-use Rattle.gfa_spec.specs.Bytes.{bytes, part, same}
+use lib.ListN.{length, take, drop, length-append, take-append-drop}
+use lib.Seq.{take_at, length-take-le}
+use Rattle.gfa_spec.specs.Bytes.{bytes, same}
 use Rattle.gfa_spec.specs.Decimal.{decimal}
 use Rattle.gfa_spec.proofs.Comparing.{same_length}
-use Rattle.gfa_spec.proofs.Parts.{by_order, length_part}
-use Rattle.gfa_spec.proofs.Tests.{by_test, same_sym}
+use Rattle.gfa_spec.proofs.Parts.{by_order}
+use Rattle.gfa_spec.proofs.Tests.{by_test}
 use Rattle.normalize_spec.specs.Folding.{sanitized}
 use Rattle.normalize_spec.specs.NewNames.{suffix, new_name, name_tail}
 use Rattle.normalize_spec.proofs.NewNames.{name_parts}
-use Rattle.writers.specs.Writers.{Wrote}
+use Rattle.writers.specs.declared.writer.Writer.{Writer}
+use Rattle.writers.specs.Writers.{Wrote, Starts, Puts}
 use Rattle.writers.proofs.Digits.{decimal_small, decimal_more}
-use Rattle.writers.proofs.Writing.{keeps, written}
-use Rattle.new_names.proofs.Sanitizing.{length_sanitized_part}
+use Rattle.writers.proofs.Writing.{written}
+use Rattle.new_names.proofs.Sanitizing.{length_sanitized}
 
 -- ---- lengths
 
@@ -41,7 +41,7 @@ digits_few (suc d) n h = by_order 10 n (long (digits_few d (n / 10))) short
     long ih l = rw (decimal_more n l, length-append) (omega (arith, ih (omega arith)))
 
 -- a number of 64 bits has at most 20 digits
-pub decimal_short : (n : ℕ) → n ≤ 18446744073709551615 → length (decimal n) ≤ 20
+decimal_short : (n : ℕ) → n ≤ 18446744073709551615 → length (decimal n) ≤ 20
 unfolding tens
 decimal_short n h = digits_few 19 n (omega arith)
 
@@ -52,7 +52,7 @@ suffix_short zero h = omega arith
 suffix_short (suc k) h = omega (arith, decimal_short (suc k) h)
 
 -- what stands in a name behind the unit's has at most 54 bytes
-pub tail_short : (count k : ℕ) → count ≤ 18446744073709551615 → k ≤ 18446744073709551615 → length (name_tail count k) ≤ 54
+tail_short : (count k : ℕ) → count ≤ 18446744073709551615 → k ≤ 18446744073709551615 → length (name_tail count k) ≤ 54
 unfolding name_tail bytes
 tail_short count k h l = simp length-append (omega (arith, decimal_short count h, suffix_short k l))
 
@@ -83,16 +83,24 @@ pub tail_pieces : (count k : ℕ) → bytes "_selfloop_run" ++ decimal count ++ 
 unfolding name_tail
 tail_pieces count k = rw append_assoc
 
--- what stands in a buffer before the next place, behind a piece written at its front
-pub front_length : {limit next : ℕ} {out end p : List ℕ} → length out ≡ limit → Wrote limit out 0 p end next → next ≡ length (take next end)
-front_length e w = simp length-take (omega (arith, keeps w, w.place))
+-- What a writer put at the front of a buffer stands there before its place, where there is room for it.
+module _ (q : List ℕ) {before after : Writer} {out now : List ℕ} {room : ℕ} {r : Bool} (s : Starts out room before) (long : length out ≡ room) (is : after.out.now ≡ now) (h : r ≡ same (take after.at now) q) where
+  front_same : {p : List ℕ} → Puts before p after → length p ≤ room → r ≡ same p q
+  front_same {p} w k = h ∙ ap (λ (x : List ℕ). same x q) (rw is at front)
+    where
+      started : Wrote room out 0 p after.out.now after.at
+      started = rw (s.bytes, s.front, s.limit) at w.wrote
 
--- is the piece, where there is room for it
-pub front_same : {limit next : ℕ} {out end p : List ℕ} (q : List ℕ) {r : Bool} → length out ≡ limit → length p ≤ limit → Wrote limit out 0 p end next
-    → r ≡ same q (take next end) → r ≡ same p q
-front_same {limit} {next} {out} {end} {p} q e k w h =
-    let front : take next end ≡ p = rw (written (omega arith) k w) (take_at p (drop (length p) out) next (omega (arith, w.place))) in
-    h ∙ ap (same q) front ∙ same_sym q p
+      front : take after.at after.out.now ≡ p
+      front = rw (written (omega arith) k started) (take_at p (drop (length p) out) after.at (omega (arith, started.place)))
+
+  -- a number
+  pub same_number : {n : ℕ} → 20 ≤ room → n ≤ 18446744073709551615 → Puts before (decimal n) after → r ≡ same (decimal n) q
+  same_number k l w = front_same w (omega (arith, decimal_short _ l))
+
+  -- what stands in a name behind the unit's
+  pub same_tail : {count k : ℕ} → 54 ≤ room → count ≤ 18446744073709551615 → k ≤ 18446744073709551615 → Puts before (name_tail count k) after → r ≡ same (name_tail count k) q
+  same_tail e l m w = front_same w (omega (arith, tail_short _ _ l m))
 
 -- ---- compared
 
@@ -104,35 +112,28 @@ same_append [] b (y ∷ c) d h = absurd (omega arith)
 same_append (x ∷ a) b [] d h = absurd (omega arith)
 same_append (x ∷ a) b (y ∷ c) d h = by_test (eqb x y) (λ e. rw e (same_append a b c d (omega arith))) (λ e. rw e)
 
--- a part by a front of m bytes
-part_split : (from m n : ℕ) (text : List ℕ) → m ≤ n → part from n text ≡ part from m text ++ part (from + m) (n - m) text
-unfolding part
-part_split from m n text h =
-    let whole : n ≡ m + (n - m) = omega arith in
-    ap (λ (k : ℕ). take k (drop from text)) whole ∙ take-add m (n - m) (drop from text) ∙ rw drop-drop
-
-module _ (text : List ℕ) (unit size count k name long : ℕ) (inside : unit + size ≤ length text) (within : name + long ≤ length text) where
+module _ (unit name : List ℕ) (count k : ℕ) where
   -- a name that is too short is another
-  pub name_shorter : long < size + 14 → false ≡ same (new_name (part unit size text) count k) (part name long text)
+  pub name_shorter : length name < length unit + 14 → false ≡ same (new_name unit count k) name
   name_shorter h =
-      let front = length_sanitized_part unit size text inside in
-      let other = length_part name long text within in
-      sym (same_length _ _ (λ e. omega (arith, ap length (name_parts (part unit size text) count k), length-append (sanitized (part unit size text)) (name_tail count k), tail_long count k)))
+      let front = length_sanitized unit in
+      sym (same_length _ _ (λ e. omega (arith, ap length (name_parts unit count k), length-append (sanitized unit) (name_tail count k), tail_long count k)))
 
-  -- any other by its front and what stands behind it
-  name_both : size + 14 ≤ long → same (new_name (part unit size text) count k) (part name long text) ≡
-      (same (sanitized (part unit size text)) (part name size text) && same (name_tail count k) (part (name + size) (long - size) text))
-  name_both h =
-      let front = length_sanitized_part unit size text inside in
-      let other = length_part name size text (omega arith) in
-      rw (name_parts, part_split name size long text (omega arith)) (same_append _ _ _ _ (omega arith))
+  module _ {front back : List ℕ} (is_front : front ≡ take (length unit) name) (is_back : back ≡ drop (length unit) name) (h : length unit + 14 ≤ length name) where
+    -- any other by its front and what stands behind it
+    name_both : same (new_name unit count k) name ≡ (same (sanitized unit) front && same (name_tail count k) back)
+    name_both =
+        let long = length_sanitized unit in
+        let all : name ≡ front ++ back = rw (is_front, is_back) (sym (take-append-drop (length unit) name)) in
+        rw (name_parts, all) (same_append _ _ _ _ (rw is_front (omega (arith, length-take-le (length unit) name (omega arith)))))
 
-  module _ {r : Bool} (h : size + 14 ≤ long) (front : r ≡ same (sanitized (part unit size text)) (part name size text)) where
-    -- the front is another
-    pub name_front : not r ≡ true → false ≡ same (new_name (part unit size text) count k) (part name long text)
-    name_front e = sym (name_both h ∙ rw (← front, not-true r e))
+    module _ {r : Bool} (same_front : r ≡ same (sanitized unit) front) where
+      -- the front is another
+      pub name_front : r ≡ false → r ≡ same (new_name unit count k) name
+      name_front e = e ∙ sym (name_both ∙ rw (← same_front, e))
 
-    -- the front is the unit's: what stands behind it decides
-    pub name_behind : {t : Bool} → not r ≡ false → t ≡ same (name_tail count k) (part (name + size) (long - size) text)
-        → t ≡ same (new_name (part unit size text) count k) (part name long text)
-    name_behind e behind = behind ∙ sym (name_both h ∙ rw (← front, not-false r e))
+      -- the front is the unit's: what stands behind it decides
+      pub name_behind : {t : Bool} → r ≡ true → t ≡ same (name_tail count k) back → t ≡ same (new_name unit count k) name
+      name_behind e behind = behind ∙ sym (name_both ∙ rw (← same_front, e))
+
+pub ruleset comparing = (name_shorter, name_front, name_behind)

@@ -1,92 +1,73 @@
 // The new IDs of rule 5, written and compared: a name of a unit, a run length and a suffix, or a number.
-ghost use Rattle.std.specs.Prelude.{◌≡◌, ◌+◌, ◌≤◌, length};
-ghost use Rattle.gfa_spec.specs.Bytes.{same, part};
+ghost use Rattle.std.specs.Prelude.{◌≡◌};
+ghost use Rattle.gfa_spec.specs.Bytes.{same};
 ghost use Rattle.gfa_spec.specs.Decimal.{decimal};
 ghost use Rattle.normalize_spec.specs.NewNames.{suffix as suffix_of, new_name, name_tail};
-ghost use Rattle.writers.specs.Writers.{Wrote};
+ghost use Rattle.writers.specs.Writers.{Puts};
 
 use crate::sanitized::{is_sanitized, put_sanitized};
-use scan::names::same_constant;
-use writers::bytes::{put_byte, put_constant};
+use scan::names::same_bytes;
 use writers::numbers::put_decimal;
+use writers::writer::Writer;
 
 // Nothing for suffix 0, else `_` and the suffix.
-fn put_suffix(out: &mut [u8], at: usize, limit: usize, suffix: usize) -> usize
-    ensures { Wrote limit out.old at (suffix_of suffix) out.new result }
+fn put_suffix(w: &mut Writer, suffix: usize)
+    ensures { Puts w.old (suffix_of suffix) w.new }
 {
-    if suffix == 0 {
-        return put_constant(out, at, limit, b"");
+    if suffix != 0 {
+        w.put_byte(b'_');
+        put_decimal(w, suffix as u64);
     }
-    let next = put_byte(out, at, limit, b'_');
-    put_decimal(out, next, limit, suffix as u64)
 }
 
 // What stands in a name behind the unit's.
-fn put_tail(out: &mut [u8], at: usize, limit: usize, count: usize, suffix: usize) -> usize
-    ensures { Wrote limit out.old at (name_tail count suffix) out.new result }
+fn put_tail(w: &mut Writer, count: usize, suffix: usize)
+    ensures { Puts w.old (name_tail count suffix) w.new }
 {
-    let word = put_constant(out, at, limit, b"_selfloop_run");
-    let number = put_decimal(out, word, limit, count as u64);
-    put_suffix(out, number, limit, suffix)
+    w.put(b"_selfloop_run");
+    put_decimal(w, count as u64);
+    put_suffix(w, suffix);
 }
 
-// The name of the unit that is the `n` bytes of `text` from `from` on.
-pub fn put_new_name(
-    out: &mut [u8],
-    at: usize,
-    limit: usize,
-    text: &[u8],
-    from: usize,
-    n: usize,
-    count: usize,
-    suffix: usize,
-) -> usize
-    requires { from + n ≤ length text.now }
-    ensures { Wrote limit out.old at (new_name (part from n text.now) count suffix) out.new result }
+// The name of a unit, a run length and a suffix.
+pub fn put_new_name(w: &mut Writer, unit: &[u8], count: usize, suffix: usize)
+    ensures { Puts w.old (new_name unit.now count suffix) w.new }
 {
-    let next = put_sanitized(out, at, limit, text, from, n);
-    put_tail(out, next, limit, count, suffix)
+    put_sanitized(w, unit);
+    put_tail(w, count, suffix);
 }
 
-// Are the `n` bytes of `text` from `from` on what stands in a name behind the unit's? It has at most 54 bytes.
-fn is_tail(text: &[u8], from: usize, n: usize, count: usize, suffix: usize) -> bool
-    requires { from + n ≤ length text.now }
-    ensures { result ≡ same (name_tail count suffix) (part from n text.now) }
+// Is it what stands in a name behind the unit's? That has at most 54 bytes.
+fn is_tail(s: &[u8], count: usize, suffix: usize) -> bool
+    ensures { result ≡ same (name_tail count suffix) s.now }
 {
     let mut tail = [0u8; 64];
-    let end = put_tail(&mut tail, 0, 64, count, suffix);
-    same_constant(text, from, n, &tail[..end])
+    let mut w = Writer::new(&mut tail, 64);
+    put_tail(&mut w, count, suffix);
+    let end = w.at;
+    same_bytes(&tail[..end], s)
 }
 
-// Is the name that is the `long` bytes of `text` from `name` on the name of the unit that is the `size` bytes from `unit` on? Such a name has at
-// least 14 bytes more than the unit's.
-pub fn is_new_name(
-    text: &[u8],
-    unit: usize,
-    size: usize,
-    count: usize,
-    suffix: usize,
-    name: usize,
-    long: usize,
-) -> bool
-    requires { (unit + size ≤ length text.now) × (name + long ≤ length text.now) }
-    ensures { result ≡ same (new_name (part unit size text.now) count suffix) (part name long text.now) }
+// Is the name that of the unit, a run length and a suffix? Such a name has at least 14 bytes more than the unit's.
+#[tactic(auto, using(crate::proofs::Naming::comparing))]
+pub fn is_new_name(unit: &[u8], count: usize, suffix: usize, name: &[u8]) -> bool
+    ensures { result ≡ same (new_name unit.now count suffix) name.now }
 {
-    if long < size + 14 {
+    let size = unit.len();
+    if name.len() < size + 14 {
         return false;
     }
-    if !is_sanitized(text, unit, name, size) {
-        return false;
-    }
-    is_tail(text, name + size, long - size, count, suffix)
+    let (front, back) = name.split_at(size);
+    is_sanitized(unit, front) && is_tail(back, count, suffix)
 }
 
-// Is the name that is the `long` bytes of `text` from `name` on this number in decimal? It has at most 20 digits.
-pub fn is_decimal(text: &[u8], name: usize, long: usize, number: u64) -> bool
-    requires { name + long ≤ length text.now }
-    ensures { result ≡ same (decimal number) (part name long text.now) }
+// Is the name this number in decimal? It has at most 20 digits.
+pub fn is_decimal(name: &[u8], number: u64) -> bool
+    ensures { result ≡ same (decimal number) name.now }
 {
     let mut digits = [0u8; 20];
-    let end = put_decimal(&mut digits, 0, 20, number);
-    same_constant(text, name, long, &digits[..end])
+    let mut w = Writer::new(&mut digits, 20);
+    put_decimal(&mut w, number);
+    let end = w.at;
+    same_bytes(&digits[..end], name)
 }

@@ -12,15 +12,17 @@ use Rattle.gfa_spec.specs.Bytes.{repeat}
 use Rattle.gfa_spec.specs.Decimal.{largest64}
 use Rattle.gfa_spec.specs.Runs.{Run}
 use Rattle.normalize_spec.specs.Folding.{new_segment, make_segment}
+use Rattle.std.specs.Prelude.{Option, Some}
+use Rattle.tables.specs.declared.entry.SegmentNo.{SegmentNo}
+use Rattle.work.specs.Rows.{word_of}
 use Rattle.work.proofs.Rows.{each_more}
 use Rattle.tables.specs.declared.tables.Bases.{Bases}
 use Rattle.tables.specs.declared.tables.Counts.{Counts}
-use Rattle.tables.specs.declared.entry.SegmentNo.{SegmentNo}
 use Rattle.tables.specs.ByNumber.{segment_no, segments_of}
 use Rattle.tables.proofs.ByNumber.{TablesKept, segment_stands}
 use Rattle.normalize_tables.specs.declared.layout.Layout.{Layout}
 use Rattle.normalize_tables.specs.declared.rows.NewSegmentWords.{NewSegmentWords}
-use Rattle.normalize_tables.specs.News.{segment_words, new_id_of, new_at, names_at, Agree, Suffixed}
+use Rattle.normalize_tables.specs.News.{number_in, segment_words, new_id_of, new_at, names_at, Agree, Suffixed}
 use Rattle.normalize_tables.specs.NewByNumber.{NewSegmentPut, KeptTo, SegmentsKept, PathsKept}
 use Rattle.normalize_tables.proofs.Nodes.{names_length, news_more, names_more}
 use Rattle.normalize_tables.proofs.NewByNumber.{segments_words, steps_words, paths_words, unit_kept, count_kept, suffix_kept, before_kept}
@@ -28,7 +30,7 @@ use Rattle.normalize_tables.proofs.NewsKept.{segment_rows_kept, new_kept, news_k
 use Rattle.new_ids.proofs.Suffixes.{RowAdded, suffixed_number, suffixed_name}
 use Rattle.new_segs.specs.Chains.{LastOn, LastPut, Chained}
 use Rattle.new_segs.specs.Makes.{next_at, made_at, Making, SuffixFor, Wanted, RowFor, Frame, SegmentMade}
-use Rattle.new_segs.proofs.Chaining.{last_kept, chained_kept, last_here, last_elsewhere}
+use Rattle.new_segs.proofs.Chaining.{last_small, last_kept, chained_kept, last_here, last_elsewhere}
 use Rattle.new_segs.proofs.Keeping.{of_text, low_stands, source_low}
 use Rattle.new_segs.proofs.Lookups.{unit_sequence}
 use Rattle.gfa_spec.proofs.Each.{nth_front}
@@ -43,8 +45,8 @@ pub record Put (n : Counts) (g : Layout) (q unit count suffix : ℕ) (w w' : Lis
   pub unit_is : (segment_words w' g q).unit.0 ≡ unit
   pub count_is : (segment_words w' g q).count ≡ count
   pub suffix_is : (segment_words w' g q).suffix ≡ suffix
-  pub back_is : (segment_words w' g q).before ≡ get_or w (g.last + unit) 0
-  pub last_is : get_or w' (g.last + unit) 0 ≡ q + 1
+  pub back_is : (segment_words w' g q).before ≡ number_in (get_or w (g.last + unit) 0)
+  pub last_is : number_in (get_or w' (g.last + unit) 0) ≡ Some q
   pub last_other : (k : ℕ) → k < n.segs → (k ≡ unit → ⊥) → get_or w' (g.last + k) 0 ≡ get_or w (g.last + k) 0
 
 -- a number is on one side of another, or equal to it
@@ -54,6 +56,25 @@ side base k unit d = go (dec_lt k unit)
     go : Dec (k < unit) → (base + k < base + unit) ⊎ (base + unit + 1 ≤ base + k)
     go (yes m) = inl (omega arith)
     go (no m) = inr (omega arith)
+
+-- the row of the next new segment
+pub row_for : {text w : List ℕ} {b : Bases} {n : Counts} {g : Layout} {first q count suffix : ℕ} {unit : SegmentNo} {before : Option ℕ} → Wanted text w b n g first q unit.0 count
+    → SuffixFor text w b n g first q unit.0 count suffix → before ≡ number_in (get_or w (g.last + unit.0) 0)
+    → RowFor text w b n g first q unit.0 count (record { unit = unit; count = count; suffix = suffix; before = before })
+row_for {unit = unit} x t e =
+    let s = x.making.source in
+    let l = s.placed in
+    let f = s.readable.few in
+    let last = last_small (x.making.lasts unit.0 x.there) in
+    record {
+      of_unit = refl;
+      of_count = refl;
+      of_suffix = t;
+      of_last = e;
+      room = omega (arith, x.room);
+      small = (omega (arith, x.few), omega (arith, t.few, x.room), rw e (omega (arith, last, x.room)), omega (arith, x.room));
+      last = omega (arith, x.there);
+    }
 
 -- by two stores: the row, and the word of the last new segment on the unit
 stored : {text w v w' : List ℕ} {b : Bases} {n : Counts} {g : Layout} {first q unit count : ℕ} {x : NewSegmentWords} → Wanted text w b n g first q unit count → RowFor text w b n g first q unit count x
@@ -70,7 +91,7 @@ stored {w = w} {v} {w'} {b} {n} {g} {first} {q} {unit} {count} {x} want f r o =
       count_is = count_kept g row q (omega arith) ∙ ap (λ x. x.count) r.words ∙ f.of_count;
       suffix_is = suffix_kept g row q (omega arith) ∙ ap (λ x. x.suffix) r.words;
       back_is = before_kept g row q (omega arith) ∙ ap (λ x. x.before) r.words ∙ f.of_last;
-      last_is = o.is;
+      last_is = rw (o.is, add-one) (unfold number_in in refl);
       last_other = λ k m d. late (g.last + k) (side g.last k unit d) ∙ r.only.word (g.last + k) (inl (omega (arith, l.paths, l.segs)), tt);
     }
   where
@@ -150,16 +171,16 @@ module _ {text w w' : List ℕ} {b : Bases} {n : Counts} {g : Layout} {first q u
       go (yes e) =
           let unit-there : (segment_words w g i).unit.0 ≡ unit = sym (unit_kept g p.segs i (omega arith)) ∙ u ∙ rw e p.unit_is in
           let count-there : (segment_words w g i).count ≡ count = sym (count_kept g p.segs i (omega arith)) ∙ c ∙ rw e p.count_is in
-          x.fresh.later i (omega arith) (omega arith) unit-there count-there
+          x.fresh.later i (unfold word_of in omega arith) (omega arith) unit-there count-there
       go (no e) =
           let low : i < q = omega arith in
           let high : j < q = omega arith in
           x.making.alone i j l high (sym (unit_kept g p.segs i low) ∙ u ∙ unit_kept g p.segs j high) (sym (count_kept g p.segs i low) ∙ c ∙ count_kept g p.segs j high)
 
-  put_lasts : (k : ℕ) → k < n.segs → LastOn w' g k (suc q) (get_or w' (g.last + k) 0)
+  put_lasts : (k : ℕ) → k < n.segs → LastOn w' g k (suc q) (number_in (get_or w' (g.last + k) 0))
   put_lasts k l = go (ℕ_discrete k unit)
     where
-      go : Dec (k ≡ unit) → LastOn w' g k (suc q) (get_or w' (g.last + k) 0)
+      go : Dec (k ≡ unit) → LastOn w' g k (suc q) (number_in (get_or w' (g.last + k) 0))
       go (yes e) = rw (e, p.last_is) (last_here q p.unit_is)
       go (no e) = rw (p.last_other k l e) (last_elsewhere (λ f. e (sym f ∙ p.unit_is)) (last_kept p.segs (omega arith) (x.making.lasts k l)))
 
@@ -193,21 +214,3 @@ module _ {text w w' : List ℕ} {b : Bases} {n : Counts} {g : Layout} {first q u
 pub segment_made : {text w v w' : List ℕ} {b : Bases} {n : Counts} {g : Layout} {first q unit count : ℕ} {x : NewSegmentWords} → Wanted text w b n g first q unit count
     → RowFor text w b n g first q unit count x → NewSegmentPut w v g q x → LastPut v w' g unit q → SegmentMade text w w' b n g first q unit count
 segment_made x f r o = segment_is x f.of_suffix (stored x f r o)
-
--- the row
-pub row_for : {text w : List ℕ} {b : Bases} {n : Counts} {g : Layout} {first q count suffix before : ℕ} {unit : SegmentNo} → Wanted text w b n g first q unit.0 count
-    → SuffixFor text w b n g first q unit.0 count suffix → before ≡ get_or w (g.last + unit.0) 0
-    → RowFor text w b n g first q unit.0 count (record { unit = unit; count = count; suffix = suffix; before = before })
-row_for {unit = unit} x t e =
-    let p = x.making.source.placed in
-    let f = x.making.source.readable.few in
-    let l = (x.making.lasts unit.0 x.there).below in
-    record {
-      of_unit = refl;
-      of_count = refl;
-      of_suffix = t;
-      of_last = e;
-      room = omega (arith, p.steps, p.added, p.ends, p.room, x.room);
-      small = (omega (arith, f.4, x.few), omega (arith, f.1, f.4, x.making.half, t.few), omega (arith, f.4, x.making.half), omega (arith, f.4, x.making.half));
-      last = omega (arith, p.paths, p.segs, p.steps, p.added, p.ends, p.room, x.there);
-    }

@@ -3,8 +3,7 @@ use Prim.Native.Nat.{ℕ, zero, suc, ◌<◌}
 use native.Mathlib.Omega.{arith}
 use mathlib.Core.Bool.{true, false, not}
 use mathlib.Core.List.{List, [], ◌∷◌, map}
-use mathlib.Core.Option
-use mathlib.Core.Option.{Option, none, some}
+use Rattle.std.specs.Prelude.{Option, None, Some, option_map}
 use mathlib.Core.Path.{◌≡◌, refl, sym, ap, ◌∙◌}
 use lib.Dec.{eqb, eqb-zero-suc}
 use lib.ListN.{length, length-map}
@@ -38,7 +37,7 @@ same_segment ss j k d l m =
     rw (← id_at ss j, ← id_at ss k) (same_place (map (λ s. s.id) ss) j k d (omega arith) (omega arith))
 
 -- the sequence of the name of segment k is its own
-sequence_at : (ss : List Segment) (k : ℕ) → distinct (map (λ s. s.id) ss) ≡ true → k < length ss → sequence_of ss (nth k ss no_segment).id ≡ some (nth k ss no_segment).sequence
+sequence_at : (ss : List Segment) (k : ℕ) → distinct (map (λ s. s.id) ss) ≡ true → k < length ss → sequence_of ss (nth k ss no_segment).id ≡ Some (nth k ss no_segment).sequence
 unfolding sequence_of nth
 sequence_at [] k d h = absurd (omega arith)
 sequence_at (s ∷ ss) zero d h = rw same_refl
@@ -47,7 +46,7 @@ sequence_at (s ∷ ss) (suc k) d h =
     rw other (sequence_at ss k (unfold distinct in and_right (not (any (same s.id) (map (λ s. s.id) ss))) (distinct (map (λ s. s.id) ss)) d) (omega arith))
 
 -- a name that has number k is that of segment k
-number_id : (ss : List Segment) (name : List ℕ) (k : ℕ) → segment_number ss name ≡ some k → (nth k ss no_segment).id ≡ name
+number_id : (ss : List Segment) (name : List ℕ) (k : ℕ) → segment_number ss name ≡ Some k → (nth k ss no_segment).id ≡ name
 unfolding segment_number nth
 number_id [] name k e = let z : ◌≡◌ {A = ℕ} 0 1 = cc in absurd (omega arith)
 number_id (s ∷ ss) name k e =
@@ -55,21 +54,21 @@ number_id (s ∷ ss) name k e =
     (λ t. first k (rw t at e) (same_equal s.id name t))
     (λ t. more (λ j f. number_id ss name j f) k (segment_number ss name) refl (rw t at e))
   where
-    first : (k : ℕ) → some 0 ≡ some k → s.id ≡ name → (nth k (s ∷ ss) no_segment).id ≡ name
+    first : (k : ℕ) → Some 0 ≡ Some k → s.id ≡ name → (nth k (s ∷ ss) no_segment).id ≡ name
     first zero f t = t
     first (suc k) f t = let z : ◌≡◌ {A = ℕ} 0 (suc k) = cc in absurd (omega arith)
 
-    more : ((j : ℕ) → segment_number ss name ≡ some j → (nth j ss no_segment).id ≡ name) → (k : ℕ) (o : Option ℕ) → segment_number ss name ≡ o → Option.map suc o ≡ some k
+    more : ((j : ℕ) → segment_number ss name ≡ Some j → (nth j ss no_segment).id ≡ name) → (k : ℕ) (o : Option ℕ) → segment_number ss name ≡ o → option_map suc o ≡ Some k
         → (nth k (s ∷ ss) no_segment).id ≡ name
-    more r k none f t = let z : ◌≡◌ {A = ℕ} 0 1 = cc in absurd (omega arith)
-    more r zero (some j) f t = let z : ◌≡◌ {A = ℕ} (suc j) 0 = cc in absurd (omega arith)
-    more r (suc k) (some j) f t = let z : ◌≡◌ {A = ℕ} j k = cc in r k (f ∙ rw z)
+    more r k None f t = let z : ◌≡◌ {A = ℕ} 0 1 = cc in absurd (omega arith)
+    more r zero (Some j) f t = let z : ◌≡◌ {A = ℕ} (suc j) 0 = cc in absurd (omega arith)
+    more r (suc k) (Some j) f t = let z : ◌≡◌ {A = ℕ} j k = cc in r k (f ∙ rw z)
 
 -- ---- the table
 
 module _ (text work : List ℕ) (b : Bases) (n : Counts) (k : ℕ) (h : k < n.segs) where
   -- the name that has number k
-  pub number_name : (name : List ℕ) → segment_number (segments_of text work b n) name ≡ some k → name ≡ (segment_no text work b k).id
+  pub number_name : (name : List ℕ) → segment_number (segments_of text work b n) name ≡ Some k → name ≡ (segment_no text work b k).id
   number_name name e = sym (number_id (segments_of text work b n) name k e) ∙ ap (λ s. s.id) (segments_nth text work b n.segs k no_segment h)
 
   in_table : k < length (segments_of text work b n)

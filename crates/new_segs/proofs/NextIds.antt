@@ -4,7 +4,7 @@ use native.Mathlib.Nat.{add-zero, add-suc}
 use native.Mathlib.Omega.{arith}
 use mathlib.Core.Bool.{Bool, true, false, cond}
 use mathlib.Core.List.{List}
-use mathlib.Core.Option.{Option, none, some}
+use Rattle.std.specs.Prelude.{Option, None, Some}
 use mathlib.Core.Path.{◌≡◌, refl, sym, ◌∙◌}
 use lib.Dec.{ltb}
 use borrow.Author.Tests.{lt-ltb, ltb-true, ltb-false}
@@ -17,12 +17,12 @@ use Rattle.tables.specs.declared.tables.Counts.{Counts}
 use Rattle.tables.specs.ByNumber.{segments_of}
 use Rattle.normalize_tables.specs.declared.layout.Layout.{Layout}
 use Rattle.normalize_tables.specs.News.{first_of, first_number, new_id_of}
-use Rattle.new_ids.specs.Ids.{Named, SuffixIs}
+use Rattle.new_ids.specs.Ids.{SuffixIs}
 use Rattle.new_segs.specs.Makes.{next_at, Making, SuffixFor}
 
 -- a number that may be used, or none
 unfoldable pub usable_from : ℕ → Option ℕ
-usable_from k = cond (ltb k largest64) (some k) none
+usable_from k = cond (ltb k largest64) (Some k) None
 
 -- a number that is not below another
 pub not_less : (k m : ℕ) → m ≤ k → ltb k m ≡ false
@@ -31,8 +31,8 @@ not_less k m h = refute (ltb k m) (λ e. let l = ltb-true k m e in absurd (omega
 -- the first
 usable_first : (o : Option ℕ) → usable o ≡ usable_from (first_of o)
 unfolding usable usable_from first_of
-usable_first none = rw (not_less largest64 largest64 (omega arith))
-usable_first (some m) = refl
+usable_first None = rw (not_less largest64 largest64 (omega arith))
+usable_first (Some m) = refl
 
 -- and one more
 usable_more : (k : ℕ) → usable (next_after (usable_from k)) ≡ usable_from (suc k)
@@ -81,9 +81,3 @@ module _ {text work : List ℕ} {b : Bases} {n : Counts} {g : Layout} {first q :
 
     pub suffix_name : {unit count r : ℕ} → t ≡ false → SuffixIs text work b n g first q unit count r → SuffixFor text work b n g first q unit count r
     suffix_name f s = name_suffix (suffix_large f) s
-
-  -- the table may be searched for names
-  pub making_named : Named text work b n g q
-  making_named =
-      let p = m.source.placed in
-      record { readable = m.source.readable; room = omega (arith, p.steps, p.added, p.ends, p.room, m.half); few = omega (arith, m.half); rows = m.rows }

@@ -1,17 +1,18 @@
 -- The table of new segments, and what one more does to it. Document 01, "Folding", rules 4 and 5.
 use Rattle.std.specs.Prelude.{ℕ, zero, suc, ◌+◌, ◌*◌, ◌≤◌, ◌<◌, List, ◌≡◌, length, get_or}
-use Rattle.std.proofs.Math.Option.{Option}
+use Rattle.std.specs.Prelude.{Option, None}
 use Rattle.gfa_spec.specs.Decimal.{largest64}
 use Rattle.gfa_spec.specs.Reading.{Segment}
 use Rattle.gfa_spec.specs.Runs.{Run}
 use Rattle.normalize_spec.specs.Folding.{Made, none_made, next_after, usable, new_id, new_segment, make_segment}
+use Rattle.work.specs.Rows.{word_of}
 use Rattle.tables.specs.declared.tables.Bases.{Bases}
 use Rattle.tables.specs.declared.tables.Counts.{Counts}
 use Rattle.tables.specs.ByNumber.{segment_no, segments_of}
 use Rattle.normalize_tables.specs.declared.layout.Layout.{Layout}
 use Rattle.normalize_tables.specs.declared.rows.NewSegmentWords.{NewSegmentWords}
 use Rattle.normalize_tables.specs.Layout.{Source}
-use Rattle.normalize_tables.specs.News.{segment_words, first_number, new_id_of, new_at, news_at, names_at, Agree, Suffixed}
+use Rattle.normalize_tables.specs.News.{number_in, segment_words, first_number, new_id_of, new_at, news_at, names_at, Agree, Suffixed}
 use Rattle.normalize_tables.specs.NewByNumber.{SegmentRoom, SegmentRows, KeptTo, StepsKept, PathsKept}
 use Rattle.new_ids.specs.Ids.{SuffixIs}
 use Rattle.new_segs.specs.Chains.{LastOn, Chained, MadeIs}
@@ -36,7 +37,7 @@ pub record Making (text work : List ℕ) (b : Bases) (n : Counts) (g : Layout) (
   pub rows : SegmentRows work n g q
   pub suffixed : Suffixed text work b n g first q
   pub alone : (i j : ℕ) → i < j → j < q → (segment_words work g i).unit.0 ≡ (segment_words work g j).unit.0 → (segment_words work g i).count ≡ (segment_words work g j).count → ⊥
-  pub lasts : (k : ℕ) → k < n.segs → LastOn work g k q (get_or work (g.last + k) 0)
+  pub lasts : (k : ℕ) → k < n.segs → LastOn work g k q (number_in (get_or work (g.last + k) 0))
   pub chained : Chained work g q
 
 -- ---- one more
@@ -54,16 +55,16 @@ pub record Wanted (text work : List ℕ) (b : Bases) (n : Counts) (g : Layout) (
   pub there : unit < n.segs
   pub few : count ≤ n.steps
   pub room : 2 * q + 2 ≤ n.steps
-  pub fresh : MadeIs work g q unit count 0
+  pub fresh : MadeIs work g q unit count None
 
 -- The row of new segment q, of a unit and a run length; there is room for it, and its words fit, as does the number behind q.
 pub record RowFor (text work : List ℕ) (b : Bases) (n : Counts) (g : Layout) (first q unit count : ℕ) (r : NewSegmentWords) : Type 0 where
   pub of_unit : r.unit.0 ≡ unit
   pub of_count : r.count ≡ count
   pub of_suffix : SuffixFor text work b n g first q unit count r.suffix
-  pub of_last : r.before ≡ get_or work (g.last + unit) 0
+  pub of_last : r.before ≡ number_in (get_or work (g.last + unit) 0)
   pub room : SegmentRoom work g (q + 1)
-  pub small : (r.count < 4294967296) × (r.suffix < 4294967296) × (r.before < 4294967296) × (q + 1 < 4294967296)
+  pub small : (r.count < 4294967296) × (r.suffix < 4294967296) × (word_of r.before < 4294967296) × (q + 1 < 4294967296)
   pub last : g.last + unit < length work
 
 -- The words below the table of last new segments, the rows of the first p new paths and of the first t new steps, and the words behind all of

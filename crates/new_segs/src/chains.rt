@@ -4,24 +4,24 @@ ghost use Rattle.new_segs.specs.Chains.{MadeIs, LastPut};
 ghost use Rattle.new_segs.specs.Makes.{Making};
 
 use normalize_tables::layout::{Area, Layout};
-use normalize_tables::rows::new_segment_at;
+use normalize_tables::rows::{new_segment_at, number_at};
 use tables::entry::SegmentNo;
-use work::work::{put_row, word};
 
-// The last new segment that was made of the unit and the run length, counted from 1; or 0.
-pub fn made_for(text: &[u8], work: &[u32], a: Area, unit: SegmentNo, count: usize) -> usize
+// The last new segment that was made of the unit and the run length, if there is one.
+pub fn made_for(text: &[u8], work: &[u32], a: Area, unit: SegmentNo, count: usize) -> Option<usize>
     requires { Making text.now work.now a.b a.n a.g a.m.first a.m.segs × (unit.0 < a.n.segs) }
     ensures { MadeIs work.now a.g a.m.segs unit.0 count result }
 {
-    let mut j = word(work, a.g.last + unit.0 as usize);
-    while j != 0 {
-        let row = new_segment_at(text, work, a, j - 1);
+    let mut last = number_at(work, a.g.last + unit.0 as usize);
+    // Along the chain: each new segment's row names the one before it on its unit.
+    while let Some(j) = last {
+        let row = new_segment_at(text, work, a, j);
         if row.count == count {
-            return j;
+            return Some(j);
         }
-        j = row.before;
+        last = row.before;
     }
-    0
+    None
 }
 
 // Puts new segment `q` down as the last on the unit.
@@ -29,5 +29,5 @@ pub fn put_last(work: &mut [u32], g: Layout, unit: SegmentNo, q: usize)
     requires { (g.last + unit.0 < length work.old) × (q + 1 < 4294967296) }
     ensures { LastPut work.old work.new g unit.0 q }
 {
-    put_row(work, g.last + unit.0 as usize, &[q + 1]);
+    work[g.last + unit.0 as usize] = (q + 1) as u32;
 }

@@ -6,9 +6,8 @@ use crate::chains::put_last;
 use new_ids::ids::free_suffix;
 use new_ids::rows::is_numbered;
 use normalize_tables::layout::Area;
-use normalize_tables::rows::{NewSegmentWords, put_new_segment};
+use normalize_tables::rows::{NewSegmentWords, number_at, put_new_segment};
 use tables::entry::SegmentNo;
-use work::work::word;
 
 // The suffix of the next new segment: 0 where its ID is a number, else the first that is free.
 pub fn new_suffix(text: &[u8], work: &[u32], a: Area, unit: SegmentNo, count: usize) -> usize
@@ -30,7 +29,7 @@ pub fn new_row(text: &[u8], work: &[u32], a: Area, unit: SegmentNo, count: usize
         unit,
         count,
         suffix: new_suffix(text, work, a, unit, count),
-        before: word(work, a.g.last + unit.0 as usize),
+        before: number_at(work, a.g.last + unit.0 as usize),
     }
 }
 

@@ -2,22 +2,22 @@
 use Prim.Native.Nat.{ℕ, zero, suc, ◌+◌, ◌*◌, ◌-◌, ◌≤◌, ◌<◌}
 use native.Mathlib.Decide.{ℕ_discrete}
 use native.Mathlib.Omega.{arith}
-use mathlib.Core.List.{List, [], ◌∷◌, ◌++◌, map, map-append}
+use mathlib.Core.List.{List, [], ◌∷◌, ◌++◌, map, map-append, append_assoc, append-nil}
 use mathlib.Core.Path.{◌≡◌, refl, sym, ap, ◌∙◌}
 use lib.ListN.{length, get_or, length-map}
 use Rattle.gfa_spec.specs.Bytes.{sum, join, end_line, ended, Each}
 use Rattle.gfa_spec.proofs.Each.{each_append, each_map, each_implies}
 use Rattle.work.specs.Rows.{rows_at}
 use Rattle.work.proofs.Rows.{rows_length}
-use Rattle.writers.specs.Writers.{Wrote}
-use Rattle.writers.proofs.Writing.{Writing, writing_start, writing_more, writing_end, keeps}
+use Rattle.writers.specs.declared.writer.Writer.{Writer}
+use Rattle.writers.specs.Writers.{Puts}
+use Rattle.writers.proofs.Writing.{as_piece, puts_nothing, ◌▷◌}
 use Rattle.writers.proofs.Joining.{ended_first}
 use Rattle.report_spec.specs.Nodes.{Node}
 use Rattle.report_spec.specs.Order.{lengths}
 use Rattle.nodes.specs.declared.nodes.NodeWords.{NodeWords}
 use Rattle.nodes.specs.Table.{nodes_end, node_no, NodeRead}
 use Rattle.node_lines.specs.declared.buckets.Group.{Group}
-use Rattle.node_lines.specs.declared.buckets.Bucket.{Bucket}
 use Rattle.ranks.specs.Ranking.{word_at, nums_at}
 use Rattle.node_lines.specs.Groups.{buckets, bucket_of, Rising, RowNumbers, long_of, group_links, GroupIs, BucketIs, Sized, BucketsIs}
 use Rattle.tally.proofs.PathCounting.{sum_last}
@@ -102,28 +102,28 @@ module _ {work : List ℕ} {table nums m i : ℕ} where
           go k a b (yes z) = rw z (sym here ∙ d)
           go k a b (no z) = s.same k a (omega arith)
 
-    pub grouping_end : m ≤ j → GroupIs work table nums m i (record { end = j; long = long; links = links })
+    pub grouping_end : m ≤ j → GroupIs work table nums m i (record { end = m; long = long; links = links })
     grouping_end h =
+        let all : j ≡ m = omega (arith, s.high) in
         record {
-          low = omega (arith, s.start);
-          high = s.high;
+          low = s.start;
+          high = omega arith;
           long = s.is;
-          same = s.same;
+          same = λ k a l. s.same k a (omega arith);
           stop = λ u z. absurd (omega arith);
-          links = s.total;
+          links = rw all at s.total;
         }
 
 -- the bucket of a group
-pub bucket_is : {limit at next : ℕ} {out out' work : List ℕ} {table nums m i : ℕ} {g : Group} → GroupIs work table nums m i g
-    → Wrote limit out at (end_line (bucket_of g.long (g.end - i) g.links)) out' next
-    → BucketIs limit out at work table nums m i out' (record { end = g.end; next = next })
-bucket_is q w =
+pub bucket_is : {v w : Writer} {work : List ℕ} {table nums m i : ℕ} {g : Group} → GroupIs work table nums m i g → Puts v (end_line (bucket_of g.long (g.end - i) g.links)) w
+    → BucketIs v work table nums m i w g.end
+bucket_is q p =
     record {
       low = q.low;
       high = q.high;
       same = λ k a b. q.same k a b ∙ q.long;
       stop = λ u z. q.stop u (z ∙ sym q.long);
-      wrote = rw (q.long, q.links) at w;
+      puts = rw (q.long, q.links) at p;
     }
 
 -- ---- the buckets
@@ -170,80 +170,77 @@ unfolding sum
 sized_links node z [] = refl
 sized_links node z (k ∷ ns) = rw (z.links k, sized_links node z ns)
 
+-- The front of a whole, of which a rest is left, was put.
+pub record Front (first now : Writer) (whole rest : List ℕ) : Type 0 where
+  pub piece : List ℕ
+  pub puts : Puts first piece now
+  pub split : whole ≡ piece ++ rest
+
 -- The state at i: the buckets of the numbers before it are written.
-pub record Bucketing (limit : ℕ) (first : List ℕ) (at : ℕ) (work : List ℕ) (table nums m : ℕ) (out : List ℕ) (next i : ℕ) : Type 0 where
+pub record Bucketing (first : Writer) (work : List ℕ) (table nums m : ℕ) (now : Writer) (i : ℕ) : Type 0 where
   pub numbered : RowNumbers work table nums m
   pub high : i ≤ m
-  pub place : next ≤ limit
-  pub long : length out ≡ length first
-  pub writing : (node : ℕ → Node) → Sized node work table → Rising (map node (nums_at work nums m)) →
-      Writing limit first at out next (ended (buckets (map node (nums_at work nums m)))) (ended (buckets (map node (nums_at work (nums + i) (m - i)))))
+  pub front : (node : ℕ → Node) → Sized node work table → Rising (map node (nums_at work nums m)) →
+      Front first now (ended (buckets (map node (nums_at work nums m)))) (ended (buckets (map node (nums_at work (nums + i) (m - i)))))
   pub rising : (node : ℕ → Node) → Rising (map node (nums_at work nums m)) → Rising (map node (nums_at work (nums + i) (m - i)))
 
-module _ {limit at : ℕ} {first work : List ℕ} {table nums m : ℕ} where
-  pub bucketing_start : (at ≤ limit) × RowNumbers work table nums m → Bucketing limit first at work table nums m first at 0
+module _ {first : Writer} {work : List ℕ} {table nums m : ℕ} where
+  pub bucketing_start : RowNumbers work table nums m → Bucketing first work table nums m first 0
   bucketing_start h =
       let a : nums + 0 ≡ nums = omega arith in
       let c : m - 0 ≡ m = omega arith in
       record {
-        numbered = h.1;
+        numbered = h;
         high = omega arith;
-        place = h.0;
-        long = refl;
-        writing = λ node z r. writing_start (omega (arith, h.0)) (rw (a, c));
+        front = λ node z r. record { piece = []; puts = puts_nothing; split = rw (a, c) };
         rising = λ node r. rw (a, c) r;
       }
 
-  module _ {out : List ℕ} {next i : ℕ} (s : Bucketing limit first at work table nums m out next i) where
-    pub bucketing_more : {out' : List ℕ} {r : Bucket} → i < m → BucketIs limit out next work table nums m i out' r → Bucketing limit first at work table nums m out' r.next r.end
-    bucketing_more {out'} {r} h q =
+  module _ {now : Writer} {i : ℕ} (s : Bucketing first work table nums m now i) where
+    pub bucketing_more : {after : Writer} {r : ℕ} → i < m → BucketIs now work table nums m i after r → Bucketing first work table nums m after r
+    bucketing_more {after} {r} h q =
         record {
           numbered = s.numbered;
           high = q.high;
-          place = omega (arith, q.wrote.place);
-          long = keeps q.wrote ∙ s.long;
-          writing = λ node z u. writing_more (s.writing node z u) (cut node z (s.rising node u)) q.wrote;
-          rising = λ node u. rising_back (map node (nums_at work (nums + i) (r.end - i))) (map node (nums_at work (nums + r.end) (m - r.end))) (rw (halves node) at (s.rising node u));
+          front = λ node z u. let f = s.front node z u in record { piece = f.piece ++ _; puts = f.puts ▷ q.puts; split = f.split ∙ rw (cut node z (s.rising node u), append_assoc) };
+          rising = λ node u. rising_back (map node (nums_at work (nums + i) (r - i))) (map node (nums_at work (nums + r) (m - r))) (rw (halves node) at (s.rising node u));
         }
       where
-        halves : (node : ℕ → Node) → map node (nums_at work (nums + i) (m - i)) ≡ map node (nums_at work (nums + i) (r.end - i)) ++ map node (nums_at work (nums + r.end) (m - r.end))
+        halves : (node : ℕ → Node) → map node (nums_at work (nums + i) (m - i)) ≡ map node (nums_at work (nums + i) (r - i)) ++ map node (nums_at work (nums + r) (m - r))
         halves node =
-            let e : m - i ≡ r.end - i + (m - r.end) = omega (arith, q.low, q.high) in
-            let f : nums + i + (r.end - i) ≡ nums + r.end = omega (arith, q.low) in
+            let e : m - i ≡ r - i + (m - r) = omega (arith, q.low, q.high) in
+            let f : nums + i + (r - i) ≡ nums + r = omega (arith, q.low) in
             ap (λ d. map node (nums_at work (nums + i) d)) e
-            ∙ ap (map node) (nums_split work (nums + i) (r.end - i) (m - r.end))
-            ∙ map-append node (nums_at work (nums + i) (r.end - i)) (nums_at work (nums + i + (r.end - i)) (m - r.end))
+            ∙ ap (map node) (nums_split work (nums + i) (r - i) (m - r))
+            ∙ map-append node (nums_at work (nums + i) (r - i)) (nums_at work (nums + i + (r - i)) (m - r))
             ∙ rw f
 
         cut : (node : ℕ → Node) → Sized node work table → Rising (map node (nums_at work (nums + i) (m - i))) →
             ended (buckets (map node (nums_at work (nums + i) (m - i))))
-            ≡ end_line (bucket_of (long_of work table nums i) (r.end - i) (group_links work table nums i (r.end - i)))
-            ++ ended (buckets (map node (nums_at work (nums + r.end) (m - r.end))))
+            ≡ end_line (bucket_of (long_of work table nums i) (r - i) (group_links work table nums i (r - i)))
+            ++ ended (buckets (map node (nums_at work (nums + r) (m - r))))
         cut node z u =
-            let ns = nums_at work (nums + i) (r.end - i) in
+            let ns = nums_at work (nums + i) (r - i) in
             let g = map node ns in
-            let ys = map node (nums_at work (nums + r.end) (m - r.end)) in
+            let ys = map node (nums_at work (nums + r) (m - r)) in
             let n = long_of work table nums i in
-            let size : length g ≡ r.end - i = length-map ns node ∙ (unfold nums_at in rows_length word_at 1 work (nums + i) (r.end - i)) in
+            let size : length g ≡ r - i = length-map ns node ∙ (unfold nums_at in rows_length word_at 1 work (nums + i) (r - i)) in
             let some : 0 < length g = omega (arith, size, q.low) in
             let group : Each (λ a. a.sequence_len ≡ n) g =
             each_map (λ a. a.sequence_len ≡ n) node ns
-            (each_nums (λ k. (node k).sequence_len ≡ n) work nums i (r.end - i)
+            (each_nums (λ k. (node k).sequence_len ≡ n) work nums i (r - i)
             (λ k a b. unfold long_of in (z.long (get_or work (nums + k) 0) ∙ q.same k a (omega (arith, q.low))))) in
             let all = rw (halves node) at u in
-            let over = rising_over n ys (rising_above n g ys some group all) (rising_back g ys all) (next_longer node z (ℕ_discrete r.end m)) in
+            let over = rising_over n ys (rising_above n g ys some group all) (rising_back g ys all) (next_longer node z (ℕ_discrete r m)) in
             rw (halves node, buckets_group n g ys some group over, ended_first, size, sized_links node z ns) (unfold group_links in refl)
           where
-            next_longer : (node : ℕ → Node) → Sized node work table → Dec (r.end ≡ m)
-                → Each (λ a. a.sequence_len ≡ long_of work table nums i → ⊥) (first_node (map node (nums_at work (nums + r.end) (m - r.end))))
-            next_longer node z (yes e) = rw (nums_none work nums r.end m (omega arith)) (unfold first_node in tt)
+            next_longer : (node : ℕ → Node) → Sized node work table → Dec (r ≡ m)
+                → Each (λ a. a.sequence_len ≡ long_of work table nums i → ⊥) (first_node (map node (nums_at work (nums + r) (m - r))))
+            next_longer node z (yes e) = rw (nums_none work nums r m (omega arith)) (unfold first_node in tt)
             next_longer node z (no e) =
-                let l : r.end < m = omega (arith, q.high) in
-                rw (nums_cons work nums r.end m l) (unfold first_node long_of in ((λ d. q.stop l (sym (z.long (get_or work (nums + r.end) 0)) ∙ d)), tt))
+                let l : r < m = omega (arith, q.high) in
+                rw (nums_cons work nums r m l) (unfold first_node long_of in ((λ d. q.stop l (sym (z.long (get_or work (nums + r) 0)) ∙ d)), tt))
 
-    pub bucketing_end : m ≤ i → BucketsIs limit first at work table nums m out next
+    pub bucketing_end : m ≤ i → BucketsIs first work table nums m now
     bucketing_end h =
-        record {
-          wrote = λ node z u. writing_end (rw (nums_none work nums i m h) (unfold buckets lengths ended join in refl)) (s.writing node z u);
-          place = s.place;
-        }
+        record { puts = λ node z u. let f = s.front node z u in as_piece (sym (f.split ∙ rw (nums_none work nums i m h) (unfold buckets lengths ended join in append-nil f.piece))) f.puts }

@@ -1,5 +1,5 @@
 -- Pieces of a node's lines. Assumes nothing.
-use Prim.Native.Nat.{ℕ, zero, suc, ◌+◌, ◌-◌, ◌/◌, ◌%◌, ◌≤◌, ◌<◌}
+use Prim.Native.Nat.{ℕ, zero, suc, ◌-◌, ◌/◌, ◌%◌, ◌≤◌, ◌<◌}
 use native.Mathlib.Decide.{ℕ_discrete}
 use native.Mathlib.Omega.{arith}
 use mathlib.Core.Bool.{Bool, true, cond, ◌&&◌}
@@ -8,22 +8,25 @@ use mathlib.Core.Path.{◌≡◌, refl, sym, ap, ◌∙◌}
 use lib.Dec.{eqb}
 use lib.ListN.{length}
 use borrow.Author.Tests.{eq-eqb, ne_eqb}
-use Rattle.gfa_spec.specs.Bytes.{Part, bytes, bytes_of, same, star, nth, part, join, join_with, end_line, ended}
+use Rattle.std.specs.Prelude.{Option, Some, None}
+use Rattle.gfa_spec.specs.Bytes.{Part, bytes, bytes_of, same, star, nth, join, join_with, end_line, ended}
 use Rattle.gfa_spec.specs.Decimal.{decimal}
 use Rattle.gfa_spec.specs.Reading.{Step, Kind, P, W, fields, nowhere}
 use Rattle.gfa_spec.proofs.Tests.{and_left, and_right, same_equal}
-use Rattle.scan.specs.declared.places.Field.{Field}
-use Rattle.scan.specs.declared.places.Field.TheVariants.{Found, Missing}
-use Rattle.scan.specs.Places.{part_at, FoundAt, FewFields, FieldIs}
+use Rattle.scan.specs.declared.places.Place.{Place}
+use Rattle.scan.specs.Places.{part_at, FieldIs, bytes_in}
+use Rattle.scan.proofs.Fields.{found_at, few_fields}
+use Rattle.tables.specs.declared.entry.SegmentNo.{SegmentNo}
 use Rattle.tables.specs.declared.tables.Bases.{Bases}
 use Rattle.tables.specs.declared.tables.Counts.{Counts}
 use Rattle.tables.specs.declared.rows.PathWords.{PathWords}
 use Rattle.tables.specs.declared.rows.SegmentWords.{SegmentWords}
-use Rattle.tables.specs.ByNumber.{steps_from, tables_end, bytes_in, SegmentIs, PathIs}
+use Rattle.tables.specs.ByNumber.{steps_from, tables_end, SegmentIs, PathIs}
 use Rattle.tables.specs.Paths.{kind_in, path_fields}
 use Rattle.report_spec.specs.Nodes.{path_name}
-use Rattle.writers.specs.Writers.{Wrote}
-use Rattle.writers.proofs.Writing.{being, ◌▷◌}
+use Rattle.writers.specs.declared.writer.Writer.{Writer}
+use Rattle.writers.specs.Writers.{Puts}
+use Rattle.writers.proofs.Writing.{as_piece, puts_nothing, ◌▷◌}
 use Rattle.gfa_spec.specs.Sequences.{sequence_preview}
 use Rattle.report_spec.specs.Lines.{line, number, node_lines}
 use Rattle.nodes.specs.declared.counters.Counter.{Counter}
@@ -62,22 +65,21 @@ pub pairs_pieces : (bits : ℕ) → bits < 16 → join_with 44 (pairs_from bits)
 unfolding right pieces_of
 pairs_pieces bits h = same_equal (join_with 44 (pairs_from bits)) (pieces_of bits) (below_at 16 bits computed h)
 
--- a pair that is there, the first or behind another
-module _ {limit at next : ℕ} {out out' : List ℕ} (bits weight a b : ℕ) where
-  pub pair_first : bits / weight % 2 ≡ 1 → bits % weight ≡ 0 → Wrote limit out at (a ∷ b ∷ []) out' next → Wrote limit out at (pair_piece bits weight a b) out' next
+-- a pair that is not there, the first, or behind another
+module _ {v : Writer} (bits weight a b : ℕ) where
+  pub pair_none : (bits / weight % 2 ≡ 1 → ⊥) → Puts v (pair_piece bits weight a b) v
   unfolding pair_piece has_pair
-  pair_first e f w = rw (eq-eqb (bits / weight % 2) 1 e, eq-eqb (bits % weight) 0 f) w
+  pair_none e = rw (ne_eqb (bits / weight % 2) 1 e) puts_nothing
 
-  pub pair_next : bits / weight % 2 ≡ 1 → (bits % weight ≡ 0 → ⊥) → Wrote limit out at (44 ∷ a ∷ b ∷ []) out' next → Wrote limit out at (pair_piece bits weight a b) out' next
+  pub pair_first : {w : Writer} → bits / weight % 2 ≡ 1 → bits % weight ≡ 0 → Puts v (a ∷ b ∷ []) w → Puts v (pair_piece bits weight a b) w
   unfolding pair_piece has_pair
-  pair_next e f w = rw (eq-eqb (bits / weight % 2) 1 e, ne_eqb (bits % weight) 0 f) w
+  pair_first e f p = rw (eq-eqb (bits / weight % 2) 1 e, eq-eqb (bits % weight) 0 f) p
+
+  pub pair_next : {w : Writer} → bits / weight % 2 ≡ 1 → (bits % weight ≡ 0 → ⊥) → Puts v (44 ∷ a ∷ b ∷ []) w → Puts v (pair_piece bits weight a b) w
+  unfolding pair_piece has_pair
+  pair_next e f p = rw (eq-eqb (bits / weight % 2) 1 e, ne_eqb (bits % weight) 0 f) p
 
 -- ---- the name of a path
-
--- a part of no bytes
-no_part : (text : List ℕ) → part 0 0 text ≡ []
-unfolding part
-no_part text = refl
 
 -- field k of a line
 field_there : (fs : List Part) (k : ℕ) (more : List (List ℕ)) → k < length fs → nth k (map bytes_of fs ++ more) [] ≡ (nth k fs nowhere).bytes
@@ -108,96 +110,70 @@ unfolding path_fields name_column
 kind_gone P fs h = rw (ne_eqb (length fs) 3 (λ z. omega arith), append-nil) (field_gone fs 1 h)
 kind_gone W fs h = field_gone fs 3 h
 
--- a field that is found is a part of the text
-pub found_inside : {text : List ℕ} {start size k a l : ℕ} {r : Field} → FieldIs text start size k r → r ≡ Found a l → a + l ≤ length text
-found_inside {text} {start} {size} {k} {a} {l} f e = go (rw e at f.says)
-  where
-    go : FoundAt text start size k a l → a + l ≤ length text
-    go q = q.inside
+-- no path, or one whose name is a field of its line, or is not there
+module _ (text work : List ℕ) (b : Bases) (number : ℕ) where
+  pub path_none : number ≡ 0 → [] ≡ path_from text work b number
+  unfolding path_from
+  path_none e = rw e
 
-module _ {text work : List ℕ} {b : Bases} {n : Counts} {number column : ℕ} {p : PathWords} {r : Field} (some : number ≡ 0 → ⊥) (is : PathIs text work b n (number - 1) p)
-    (k : column ≡ name_column (kind_in p.kind)) (g : FieldIs text p.line.start p.line.size column r) where
-  f : FieldIs text p.line.start p.line.size (name_column (kind_in p.kind)) r
-  f = rw k at g
+  module _ {n : Counts} {column : ℕ} {p : PathWords} {r : Option Place} (some : number ≡ 0 → ⊥) (is : PathIs text work b n (number - 1) p)
+      (k : column ≡ name_column (kind_in p.kind)) (g : FieldIs text p.line column r) where
+    f : FieldIs text p.line (name_column (kind_in p.kind)) r
+    f = rw k at g
 
-  its_fields : List Part
-  its_fields = fields (part_at text p.line.start p.line.size)
+    its_fields : List Part
+    its_fields = fields (part_at text p.line.start p.line.size)
 
-  named : path_from text work b number ≡ nth (name_column (kind_in p.kind)) (path_fields (kind_in p.kind) its_fields) []
-  unfolding path_from its_fields
-  named = rw (ne_eqb number 0 some, is.path) (name_of (kind_in p.kind) its_fields (steps_from text work b p.first p.end))
+    named : path_from text work b number ≡ nth (name_column (kind_in p.kind)) (path_fields (kind_in p.kind) its_fields) []
+    unfolding path_from its_fields
+    named = rw (ne_eqb number 0 some, is.path) (name_of (kind_in p.kind) its_fields (steps_from text work b p.first p.end))
 
-  -- the name is a field of the line, or there is none
-  path_found : {a l : ℕ} → r ≡ Found a l → part a l text ≡ path_from text work b number
-  unfolding its_fields part_at
-  path_found {a} {l} e = go (rw e at f.says)
-    where
-      go : FoundAt text p.line.start p.line.size (name_column (kind_in p.kind)) a l → part a l text ≡ path_from text work b number
-      go q = sym (named ∙ kind_there (kind_in p.kind) its_fields q.more ∙ ap (λ p. p.bytes) q.field)
+    pub path_there : {q : Place} {s : List ℕ} → r ≡ Some q → s ≡ bytes_in text q → s ≡ path_from text work b number
+    unfolding its_fields part_at
+    path_there e i = let h = found_at f e in i ∙ sym (named ∙ kind_there (kind_in p.kind) its_fields h.more ∙ ap (λ p. p.bytes) h.field)
 
-  path_missing : r ≡ Missing → part 0 0 text ≡ path_from text work b number
-  unfolding its_fields
-  path_missing e = no_part text ∙ go (rw e at f.says)
-    where
-      go : FewFields text p.line.start p.line.size (name_column (kind_in p.kind)) → [] ≡ path_from text work b number
-      go q = sym (named ∙ kind_gone (kind_in p.kind) its_fields q.few)
+    pub path_gone : r ≡ None → [] ≡ path_from text work b number
+    unfolding its_fields
+    path_gone e = sym (named ∙ kind_gone (kind_in p.kind) its_fields (few_fields f e).few)
 
 -- ---- lines of a node
 
-module _ {limit at next : ℕ} {out out' : List ℕ} (text work : List ℕ) (b : Bases) (number : ℕ) where
+module _ {v w : Writer} (text work : List ℕ) (b : Bases) where
   -- the preview: of no segment, or of one
-  pub preview_none : {mid : ℕ} {o : List ℕ} → number ≡ 0 → Wrote limit out at (bytes "sequence_preview=") o mid → Wrote limit o mid (10 ∷ []) out' next
-      → Wrote limit out at (end_line (line (bytes "sequence_preview") (preview_from text work b number))) out' next
+  pub preview_none : {number : Option SegmentNo} → number ≡ None → Puts v (end_line (bytes "sequence_preview" ++ (61 ∷ []))) w
+      → Puts v (end_line (line (bytes "sequence_preview") (preview_from text work b number))) w
+  unfolding line preview_from
+  preview_none e p = rw e p
+
+  pub preview_some : {x y : Writer} {number : Option SegmentNo} {k : SegmentNo} {s : SegmentWords} {sequence : List ℕ} → number ≡ Some k → SegmentIs text work b k.0 s → sequence ≡ bytes_in text s.sequence
+      → Puts v (bytes "sequence_preview=") x → Puts x (sequence_preview sequence) y → Puts y (10 ∷ []) w
+      → Puts v (end_line (line (bytes "sequence_preview") (preview_from text work b number))) w
   unfolding end_line line bytes preview_from
-  preview_none e w v = being (rw e) (w ▷ v)
-
-  pub preview_some : {mid last : ℕ} {o p : List ℕ} {s : SegmentWords} → (number ≡ 0 → ⊥) → SegmentIs text work b (number - 1) s → Wrote limit out at (bytes "sequence_preview=") o mid
-      → Wrote limit o mid (sequence_preview (bytes_in text s.sequence)) p last → Wrote limit p last (10 ∷ []) out' next
-      → Wrote limit out at (end_line (line (bytes "sequence_preview") (preview_from text work b number))) out' next
-  unfolding end_line line bytes preview_from
-  preview_some some s w v u = being (rw (ne_eqb number 0 some, s.segment)) (w ▷ v ▷ u)
-
-  -- the path: none, or one whose name is not there, or is
-  pub path_none : number ≡ 0 → Wrote limit out at (end_line (bytes "max_repeat_run_path" ++ (61 ∷ part 0 0 text))) out' next
-      → Wrote limit out at (end_line (line (bytes "max_repeat_run_path") (path_from text work b number))) out' next
-  unfolding line path_from
-  path_none e w = being (rw (e, no_part)) w
-
-  module _ {n : Counts} {column : ℕ} {p : PathWords} {r : Field} (some : number ≡ 0 → ⊥) (is : PathIs text work b n (number - 1) p) (k : column ≡ name_column (kind_in p.kind))
-      (f : FieldIs text p.line.start p.line.size column r) where
-    pub path_gone : r ≡ Missing → Wrote limit out at (end_line (bytes "max_repeat_run_path" ++ (61 ∷ part 0 0 text))) out' next
-        → Wrote limit out at (end_line (line (bytes "max_repeat_run_path") (path_from text work b number))) out' next
-    unfolding line
-    path_gone e w = being (ap (λ v. end_line (bytes "max_repeat_run_path" ++ (61 ∷ v))) (path_missing some is k f e)) w
-
-    pub path_there : {a l : ℕ} → r ≡ Found a l → Wrote limit out at (end_line (bytes "max_repeat_run_path" ++ (61 ∷ part a l text))) out' next
-        → Wrote limit out at (end_line (line (bytes "max_repeat_run_path") (path_from text work b number))) out' next
-    unfolding line
-    path_there e w = being (ap (λ v. end_line (bytes "max_repeat_run_path" ++ (61 ∷ v))) (path_found some is k f e)) w
+  preview_some e s i p q r = as_piece (rw (e, i, s.segment)) (p ▷ q ▷ r)
 
 -- the first lines, and those of the links
-pub names_written : {limit at a₁ a₂ a₃ order : ℕ} {out o₁ o₂ o₃ : List ℕ} (text : List ℕ) (w : NodeWords) → Wrote limit out at (end_line (bytes "node" ++ (61 ∷ bytes_in text w.name))) o₁ a₁
-    → order ≡ order_from w.number → Wrote limit o₁ a₁ (end_line (bytes "order" ++ (61 ∷ decimal order))) o₂ a₂
-    → Wrote limit o₂ a₂ (end_line (bytes "sequence_len" ++ (61 ∷ decimal w.long))) o₃ a₃
-    → Wrote limit out at (ended (line (bytes "node") (bytes_in text w.name) ∷ number (bytes "order") (order_from w.number) ∷ number (bytes "sequence_len") w.long ∷ [])) o₃ a₃
+pub names_written : {v w x y : Writer} {order : ℕ} {name : List ℕ} (text : List ℕ) (node : NodeWords) → name ≡ bytes_in text node.name → Puts v (end_line (bytes "node" ++ (61 ∷ name))) w
+    → order ≡ order_from node.number → Puts w (end_line (bytes "order" ++ (61 ∷ decimal order))) x
+    → Puts x (end_line (bytes "sequence_len" ++ (61 ∷ decimal node.long))) y
+    → Puts v (ended (line (bytes "node") (bytes_in text node.name) ∷ number (bytes "order") (order_from node.number) ∷ number (bytes "sequence_len") node.long ∷ [])) y
 unfolding ended join line number
-names_written text w p e q r = being (rw e (simp (append_assoc, append-nil))) (p ▷ q ▷ r)
+names_written text node i p e q r = as_piece (rw (i, e) (simp (append_assoc, append-nil))) (p ▷ q ▷ r)
 
-pub two_lines : {limit at a₁ a₂ : ℕ} {out o₁ o₂ : List ℕ} (l m : List ℕ) → Wrote limit out at (end_line l) o₁ a₁ → Wrote limit o₁ a₁ (end_line m) o₂ a₂ → Wrote limit out at (ended (l ∷ m ∷ [])) o₂ a₂
+pub two_lines : {v w x : Writer} (l m : List ℕ) → Puts v (end_line l) w → Puts w (end_line m) x → Puts v (ended (l ∷ m ∷ [])) x
 unfolding ended join
-two_lines l m p q = being (simp append-nil) (p ▷ q)
+two_lines l m p q = as_piece (simp append-nil) (p ▷ q)
 
 -- ---- the thirteen lines
 
-pub thirteen : {limit at a₁ a₂ a₃ a₄ a₅ : ℕ} {out o₁ o₂ o₃ o₄ o₅ : List ℕ} (a b c d e f g h i j k l m : List ℕ)
-    → Wrote limit out at (ended (a ∷ b ∷ c ∷ [])) o₁ a₁
-    → Wrote limit o₁ a₁ (end_line d) o₂ a₂
-    → Wrote limit o₂ a₂ (ended (e ∷ f ∷ [])) o₃ a₃
-    → Wrote limit o₃ a₃ (ended (g ∷ h ∷ i ∷ j ∷ k ∷ l ∷ [])) o₄ a₄
-    → Wrote limit o₄ a₄ (end_line m) o₅ a₅
-    → Wrote limit out at (ended (a ∷ b ∷ c ∷ d ∷ e ∷ f ∷ g ∷ h ∷ i ∷ j ∷ k ∷ l ∷ m ∷ [])) o₅ a₅
+pub thirteen : {u v w x y z : Writer} (a b c d e f g h i j k l m : List ℕ)
+    → Puts u (ended (a ∷ b ∷ c ∷ [])) v
+    → Puts v (end_line d) w
+    → Puts w (ended (e ∷ f ∷ [])) x
+    → Puts x (ended (g ∷ h ∷ i ∷ j ∷ k ∷ l ∷ [])) y
+    → Puts y (end_line m) z
+    → Puts u (ended (a ∷ b ∷ c ∷ d ∷ e ∷ f ∷ g ∷ h ∷ i ∷ j ∷ k ∷ l ∷ m ∷ [])) z
 unfolding ended join
-thirteen a b c d e f g h i j k l m p q r s t = being (simp (append_assoc, append-nil)) (p ▷ q ▷ r ▷ s ▷ t)
+thirteen a b c d e f g h i j k l m p q r s t = as_piece (simp (append_assoc, append-nil)) (p ▷ q ▷ r ▷ s ▷ t)
 
 -- the node of row k, which can be written
 module _ (text : List ℕ) (b : Bases) (n : Counts) {table k : ℕ} {work : List ℕ} {w : NodeWords} {c : Counter} (e : table ≡ tables_end b n) (p : NodeRead work table k w)
@@ -207,7 +183,6 @@ module _ (text : List ℕ) (b : Bases) (n : Counts) {table k : ℕ} {work : List
       rw (q, p.is, e)
       (record { name = h.name; segment = h.segment; bits = h.bits; path = h.path })
 
-  pub node_written : {limit at r : ℕ} {out out' : List ℕ} → Wrote limit out at (ended (node_lines (node_from text work b w c))) out' r
-      → Wrote limit out at (ended (node_lines (node_in text work b n k))) out' r
+  pub node_written : {v v' : Writer} → Puts v (ended (node_lines (node_from text work b w c))) v' → Puts v (ended (node_lines (node_in text work b n k))) v'
   unfolding node_in
-  node_written v = rw (← e, ← p.is, ← q) v
+  node_written p' = rw (← e, ← p.is, ← q) p'

@@ -2,13 +2,13 @@
 use Rattle.std.specs.Prelude.{ℕ, ◌+◌, ◌-◌, ◌≤◌, ◌<◌, List, [], ◌∷◌, map, ◌≡◌, length, get_or}
 use Rattle.gfa_spec.specs.Bytes.{bytes, sum, join_with, end_line, ended, Each}
 use Rattle.gfa_spec.specs.Decimal.{decimal}
-use Rattle.writers.specs.Writers.{Wrote}
+use Rattle.writers.specs.declared.writer.Writer.{Writer}
+use Rattle.writers.specs.Writers.{Puts}
 use Rattle.report_spec.specs.Nodes.{Node}
 use Rattle.report_spec.specs.Order.{lengths}
 use Rattle.report_spec.specs.Lines.{line, bucket_line}
 use Rattle.nodes.specs.Table.{nodes_end, node_no}
 use Rattle.node_lines.specs.declared.buckets.Group.{Group}
-use Rattle.node_lines.specs.declared.buckets.Bucket.{Bucket}
 use Rattle.ranks.specs.Ranking.{nums_at}
 
 -- the buckets of nodes
@@ -46,13 +46,13 @@ pub record GroupIs (work : List ℕ) (table nums m i : ℕ) (g : Group) : Type 0
   pub stop : g.end < m → long_of work table nums g.end ≡ g.long → ⊥
   pub links : g.links ≡ group_links work table nums i (g.end - i)
 
--- Such a group's bucket was written.
-pub record BucketIs (limit : ℕ) (out : List ℕ) (at : ℕ) (work : List ℕ) (table nums m i : ℕ) (out' : List ℕ) (r : Bucket) : Type 0 where
-  pub low : i < r.end
-  pub high : r.end ≤ m
-  pub same : (k : ℕ) → i ≤ k → k < r.end → long_of work table nums k ≡ long_of work table nums i
-  pub stop : r.end < m → long_of work table nums r.end ≡ long_of work table nums i → ⊥
-  pub wrote : Wrote limit out at (end_line (bucket_of (long_of work table nums i) (r.end - i) (group_links work table nums i (r.end - i)))) out' r.next
+-- The bucket of such a group, which ends at r, was written.
+pub record BucketIs (before : Writer) (work : List ℕ) (table nums m i : ℕ) (after : Writer) (r : ℕ) : Type 0 where
+  pub low : i < r
+  pub high : r ≤ m
+  pub same : (k : ℕ) → i ≤ k → k < r → long_of work table nums k ≡ long_of work table nums i
+  pub stop : r < m → long_of work table nums r ≡ long_of work table nums i → ⊥
+  pub puts : Puts before (end_line (bucket_of (long_of work table nums i) (r - i) (group_links work table nums i (r - i)))) after
 
 -- A node for each number, with the length and the self-links of its row.
 pub record Sized (node : ℕ → Node) (work : List ℕ) (table : ℕ) : Type 0 where
@@ -60,6 +60,5 @@ pub record Sized (node : ℕ → Node) (work : List ℕ) (table : ℕ) : Type 0 
   pub links : (i : ℕ) → (node i).links ≡ (node_no work table i).links
 
 -- The buckets of nodes that rise by length were written.
-pub record BucketsIs (limit : ℕ) (out : List ℕ) (at : ℕ) (work : List ℕ) (table nums m : ℕ) (out' : List ℕ) (r : ℕ) : Type 0 where
-  pub wrote : (node : ℕ → Node) → Sized node work table → Rising (map node (nums_at work nums m)) → Wrote limit out at (ended (buckets (map node (nums_at work nums m)))) out' r
-  pub place : r ≤ limit
+pub record BucketsIs (before : Writer) (work : List ℕ) (table nums m : ℕ) (after : Writer) : Type 0 where
+  pub puts : (node : ℕ → Node) → Sized node work table → Rising (map node (nums_at work nums m)) → Puts before (ended (buckets (map node (nums_at work nums m)))) after

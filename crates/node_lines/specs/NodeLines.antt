@@ -1,12 +1,15 @@
 -- A node as the report states it, by its row, and the pieces of its lines.
 use Rattle.std.specs.Prelude.{ℕ, ◌+◌, ◌-◌, ◌/◌, ◌%◌, ◌≤◌, ◌<◌, Bool, cond, List, [], ◌∷◌, ◌++◌, map, eqb, length, get_or}
+use Rattle.std.specs.Prelude.{Option, Some, None}
 use Rattle.gfa_spec.specs.Bytes.{bytes}
 use Rattle.gfa_spec.specs.Sequences.{sequence_preview}
 use Rattle.gfa_spec.specs.Reading.{Kind, P, W}
+use Rattle.tables.specs.declared.entry.SegmentNo.{SegmentNo}
 use Rattle.tables.specs.declared.tables.Bases.{Bases}
 use Rattle.tables.specs.declared.tables.Counts.{Counts}
-use Rattle.tables.specs.ByNumber.{segment_no, path_no, tables_end, bytes_in, Inside}
-use Rattle.tables.specs.Tables.{Readable}
+use Rattle.scan.specs.Places.{bytes_in, Inside}
+use Rattle.tables.specs.ByNumber.{segment_no, path_no, tables_end}
+use Rattle.tables.specs.Segments.{FoundBelow}
 use Rattle.report_spec.specs.Nodes.{Node, path_name}
 use Rattle.nodes.specs.declared.counters.Counter.{Counter}
 use Rattle.nodes.specs.declared.nodes.NodeWords.{NodeWords}
@@ -29,9 +32,10 @@ pairs_from bits =
 unfoldable pub pair_piece : ℕ → ℕ → ℕ → ℕ → List ℕ
 pair_piece bits weight a b = cond (has_pair bits weight) (cond (eqb (bits % weight) 0) (a ∷ b ∷ []) (44 ∷ a ∷ b ∷ [])) []
 
--- the preview of the segment whose number plus one is given, nothing for 0
-unfoldable pub preview_from : List ℕ → List ℕ → Bases → ℕ → List ℕ
-preview_from text work b number = cond (eqb number 0) [] (sequence_preview (segment_no text work b (number - 1)).sequence)
+-- the preview of the segment of a number, nothing where there is none
+unfoldable pub preview_from : List ℕ → List ℕ → Bases → Option SegmentNo → List ℕ
+preview_from text work b None = []
+preview_from text work b (Some k) = sequence_preview (segment_no text work b k.0).sequence
 
 -- the name of the path whose number plus one is given, nothing for 0
 unfoldable pub path_from : List ℕ → List ℕ → Bases → ℕ → List ℕ
@@ -69,14 +73,14 @@ node_in text work b n k = node_from text work b (node_no work (tables_end b n) k
 pub record Printable (text work : List ℕ) (b : Bases) (n : Counts) (k : ℕ) : Type 0 where
   pub room : nodes_end (tables_end b n) (k + 1) ≤ length work
   pub name : Inside text (node_no work (tables_end b n) k).name
-  pub segment : (node_no work (tables_end b n) k).number ≤ n.segs
+  pub segment : FoundBelow n.segs (node_no work (tables_end b n) k).number
   pub bits : (node_no work (tables_end b n) k).bits < 16
   pub path : (counter_no work (tables_end b n) k).first ≤ n.paths
 
 -- What is asked before a node's row is written: its name is a part of the text, and its segment and its path are there.
 pub record RowReady (text : List ℕ) (n : Counts) (w : NodeWords) (c : Counter) : Type 0 where
   pub name : Inside text w.name
-  pub segment : w.number ≤ n.segs
+  pub segment : FoundBelow n.segs w.number
   pub bits : w.bits < 16
   pub path : c.first ≤ n.paths
 
@@ -86,7 +90,6 @@ listed text work b n nums count = map (node_in text work b n) (nums_at work nums
 
 -- The numbers stand in the work area, and the nodes that they name can be written.
 pub record Listed (text work : List ℕ) (b : Bases) (n : Counts) (nums count : ℕ) : Type 0 where
-  pub readable : Readable text work b n
   pub room : nums + count ≤ length work
   pub few : count ≤ 2097152
   pub rows : (k : ℕ) → k < count → Printable text work b n (get_or work (nums + k) 0)

@@ -1,130 +1,108 @@
-// The lines of a node, written at a place of `out` as far as there is room.
+// The lines of a node.
 ghost use Rattle.std.specs.Prelude.{◌≡◌, [], ◌∷◌, map, ◌≤◌, ◌<◌};
 ghost use Rattle.gfa_spec.specs.Bytes.{bytes, join, join_with, ended, end_line};
-ghost use Rattle.tables.specs.ByNumber.{bytes_in, Inside};
-ghost use Rattle.tables.specs.Tables.{Readable};
+ghost use Rattle.scan.specs.Orientations.{sign_of};
+ghost use Rattle.scan.specs.Places.{bytes_in, Inside};
 ghost use Rattle.tables.specs.Paths.{kind_in};
-ghost use Rattle.writers.specs.Writers.{Wrote};
+ghost use Rattle.tables.specs.Segments.{FoundBelow};
+ghost use Rattle.writers.specs.Writers.{Puts};
 ghost use Rattle.report_spec.specs.Lines.{line, number as number_line, node_lines};
+ghost use Rattle.nodes.specs.Table.{weight_of};
 ghost use Rattle.ranks.specs.Ranking.{order_from};
 ghost use Rattle.node_lines.specs.NodeLines.{pairs_from, pair_piece, preview_from, path_from, name_column, node_from, node_in, Printable, RowReady, listed, Listed};
 
 use nodes::counters::{Counter, counter_at};
-use nodes::nodes::{NodeWords, node_at};
+use nodes::nodes::{NodeWords, node_at, weight};
 use ranks::ranking::order_from;
-use scan::places::{Field, field_at};
+use scan::orientation::Orientation;
+use scan::places::field_at;
 use sequences::preview::put_preview;
 use tables::entry::{PathNo, SegmentNo};
+use tables::graph::Graph;
 use tables::kinds::PathKind;
-use tables::rows::{path_at, segment_at, tables_end};
-use tables::tables::{Bases, Counts};
 use work::work::word;
-use writers::bytes::{put_byte, put_constant};
-use writers::pieces::{put_number_line, put_value_line};
+use writers::pieces::{put_number_line, put_number_lines, put_value_line};
+use writers::writer::Writer;
 
-// The orientation pair of a weight, where it is there; behind a comma, where another is before it.
-pub fn put_pair(
-    out: &mut [u8],
-    at: usize,
-    limit: usize,
-    bits: usize,
-    weight: usize,
-    a: u8,
-    b: u8,
-) -> usize
-    requires { (at ≤ limit) × (0 < weight) }
-    ensures { Wrote limit out.old at (pair_piece bits weight a b) out.new result }
+// An orientation pair, where it is there; behind a comma, where another is before it.
+pub fn put_pair(w: &mut Writer, bits: usize, from: Orientation, to: Orientation)
+    ensures { Puts w.old (pair_piece bits (weight_of from to) (sign_of from) (sign_of to)) w.new }
 {
+    let weight = weight(from, to);
     if bits / weight % 2 != 1 {
-        return at;
+        return;
     }
     if bits % weight == 0 {
-        return put_constant(out, at, limit, &[a, b]);
+        w.put(&[from.sign(), to.sign()]);
+    } else {
+        w.put(&[b',', from.sign(), to.sign()]);
     }
-    put_constant(out, at, limit, &[b',', a, b])
 }
 
 // The orientation pairs with commas between, as a line.
-pub fn put_pairs(out: &mut [u8], at: usize, limit: usize, bits: usize) -> usize
+pub fn put_pairs(w: &mut Writer, bits: usize)
     requires { bits < 16 }
-    ensures { Wrote limit out.old at (end_line (line (bytes "link_orientations") (join_with 44 (pairs_from bits)))) out.new result }
+    ensures { Puts w.old (end_line (line (bytes "link_orientations") (join_with 44 (pairs_from bits)))) w.new }
 {
-    let first = put_constant(out, at, limit, b"link_orientations=");
-    let second = put_pair(out, first, limit, bits, 1, b'+', b'+');
-    let third = put_pair(out, second, limit, bits, 2, b'+', b'-');
-    let fourth = put_pair(out, third, limit, bits, 4, b'-', b'+');
-    let last = put_pair(out, fourth, limit, bits, 8, b'-', b'-');
-    put_byte(out, last, limit, b'\n')
+    w.put(b"link_orientations=");
+    put_pair(w, bits, Orientation::Forward, Orientation::Forward);
+    put_pair(w, bits, Orientation::Forward, Orientation::Reverse);
+    put_pair(w, bits, Orientation::Reverse, Orientation::Forward);
+    put_pair(w, bits, Orientation::Reverse, Orientation::Reverse);
+    w.put_byte(b'\n');
 }
 
 // The first lines of a node: its name, its segment's number and the length of its sequence.
-pub fn put_names(out: &mut [u8], at: usize, limit: usize, text: &[u8], w: NodeWords) -> usize
-    requires { Inside text.now w.name }
-    ensures { Wrote limit out.old at (ended
-        (line (bytes "node") (bytes_in text.now w.name)
-        ∷ number_line (bytes "order") (order_from w.number)
-        ∷ number_line (bytes "sequence_len") w.long ∷ [])) out.new result }
+pub fn put_names(w: &mut Writer, text: &[u8], node: NodeWords)
+    requires { Inside text.now node.name }
+    ensures { Puts w.old (ended
+        (line (bytes "node") (bytes_in text.now node.name)
+        ∷ number_line (bytes "order") (order_from node.number)
+        ∷ number_line (bytes "sequence_len") node.long ∷ [])) w.new }
 {
-    let first = put_value_line(out, at, limit, b"node", text, w.name.start, w.name.size);
-    let order = order_from(w.number);
-    let second = put_number_line(out, first, limit, b"order", order as u64);
-    put_number_line(out, second, limit, b"sequence_len", w.long as u64)
+    put_value_line(w, b"node", node.name.of(text));
+    put_number_line(w, b"order", order_from(node.number) as u64);
+    put_number_line(w, b"sequence_len", node.long as u64);
 }
 
-// The preview of the segment whose number plus one is given, as a line.
-pub fn put_preview_line(
-    out: &mut [u8],
-    at: usize,
-    limit: usize,
-    text: &[u8],
-    work: &[u32],
-    b: Bases,
-    n: Counts,
-    number: usize,
-) -> usize
-    requires { Readable text.now work.now b n × (number ≤ n.segs) }
-    ensures { Wrote limit out.old at (end_line (line (bytes "sequence_preview") (preview_from text.now work.now b number))) out.new result }
+// The preview of the segment of a number, where there is one, as a line.
+pub fn put_preview_line(w: &mut Writer, graph: &Graph, number: Option<SegmentNo>)
+    requires { FoundBelow graph.now.n.segs number }
+    ensures { Puts w.old (end_line (line (bytes "sequence_preview") (preview_from graph.now.text.now graph.now.work.now graph.now.b number))) w.new }
 {
-    let first = put_constant(out, at, limit, b"sequence_preview=");
-    if number == 0 {
-        return put_byte(out, first, limit, b'\n');
-    }
-    let s = segment_at(text, work, b, n, SegmentNo((number - 1) as u32));
-    let second = put_preview(out, first, limit, text, s.sequence.start, s.sequence.size);
-    put_byte(out, second, limit, b'\n')
+    let Some(no) = number else {
+        put_value_line(w, b"sequence_preview", b"");
+        return;
+    };
+    w.put(b"sequence_preview=");
+    put_preview(w, graph.segment(no).sequence.of(graph.text));
+    w.put_byte(b'\n');
 }
 
 // The six lines of what is counted on paths.
-pub fn put_counts(out: &mut [u8], at: usize, limit: usize, c: Counter) -> usize
-    ensures { Wrote limit out.old at (ended
+#[tactic(auto, unfolding(gfa_spec::specs::Bytes::bytes, report_spec::specs::Lines::line, report_spec::specs::Lines::number))]
+pub fn put_counts(w: &mut Writer, c: Counter)
+    ensures { Puts w.old (ended
         (number_line (bytes "total_path_visits") c.visits
         ∷ number_line (bytes "distinct_paths") c.paths
         ∷ number_line (bytes "adjacent_same_node_path_steps") c.adjacent
         ∷ number_line (bytes "adjacent_same_step_path_steps") c.equal
         ∷ number_line (bytes "repeated_path_runs") c.runs
-        ∷ number_line (bytes "max_repeat_run_len") c.longest ∷ [])) out.new result }
+        ∷ number_line (bytes "max_repeat_run_len") c.longest ∷ [])) w.new }
 {
-    let one = put_number_line(out, at, limit, b"total_path_visits", c.visits as u64);
-    let two = put_number_line(out, one, limit, b"distinct_paths", c.paths as u64);
-    let three = put_number_line(
-        out,
-        two,
-        limit,
-        b"adjacent_same_node_path_steps",
-        c.adjacent as u64,
-    );
-    let four = put_number_line(
-        out,
-        three,
-        limit,
-        b"adjacent_same_step_path_steps",
-        c.equal as u64,
-    );
-    let five = put_number_line(out, four, limit, b"repeated_path_runs", c.runs as u64);
-    put_number_line(out, five, limit, b"max_repeat_run_len", c.longest as u64)
+    let lines: [(&[u8], u64); 6] = [
+        (b"total_path_visits", c.visits as u64),
+        (b"distinct_paths", c.paths as u64),
+        (b"adjacent_same_node_path_steps", c.adjacent as u64),
+        (b"adjacent_same_step_path_steps", c.equal as u64),
+        (b"repeated_path_runs", c.runs as u64),
+        (b"max_repeat_run_len", c.longest as u64),
+    ];
+    put_number_lines(w, &lines);
 }
 
 // The field that holds the name of a path of this kind.
+#[tactic(auto, unfolding(crate::specs::NodeLines::name_column))]
 fn name_column(kind: PathKind) -> usize
     ensures { result ≡ name_column (kind_in kind) }
 {
@@ -134,105 +112,71 @@ fn name_column(kind: PathKind) -> usize
     }
 }
 
-// The name of the path whose number plus one is given, as a line.
-pub fn put_path_line(
-    out: &mut [u8],
-    at: usize,
-    limit: usize,
-    text: &[u8],
-    work: &[u32],
-    b: Bases,
-    n: Counts,
-    number: usize,
-) -> usize
-    requires { Readable text.now work.now b n × (number ≤ n.paths) }
-    ensures { Wrote limit out.old at (end_line (line (bytes "max_repeat_run_path") (path_from text.now work.now b number))) out.new result }
+// The name of the path whose number plus one is given; nothing for 0, nor where the path's line has no such field.
+#[tactic(auto, using(crate::proofs::Pieces::path_none, scan::proofs::Fields::found_at))]
+fn path_name<'a>(graph: &Graph<'a>, number: usize) -> &'a [u8]
+    requires { number ≤ graph.now.n.paths }
+    ensures { result.now ≡ path_from graph.now.text.now graph.now.work.now graph.now.b number }
 {
     if number == 0 {
-        return put_value_line(out, at, limit, b"max_repeat_run_path", text, 0, 0);
+        return b"";
     }
-    let p = path_at(text, work, b, n, PathNo((number - 1) as u32));
-    let kind = p.kind;
-    let Field::Found(name, long) = field_at(text, p.line.start, p.line.size, name_column(kind))
-    else {
-        return put_value_line(out, at, limit, b"max_repeat_run_path", text, 0, 0);
-    };
-    put_value_line(out, at, limit, b"max_repeat_run_path", text, name, long)
+    let path = graph.path(PathNo((number - 1) as u32));
+    match field_at(graph.text, path.line, name_column(path.kind)) {
+        Some(name) => name.of(graph.text),
+        None => b"",
+    }
+}
+
+// The name of the path whose number plus one is given, as a line.
+#[tactic(auto, unfolding(gfa_spec::specs::Bytes::bytes, report_spec::specs::Lines::line))]
+pub fn put_path_line(w: &mut Writer, graph: &Graph, number: usize)
+    requires { number ≤ graph.now.n.paths }
+    ensures { Puts w.old (end_line (line (bytes "max_repeat_run_path") (path_from graph.now.text.now graph.now.work.now graph.now.b number))) w.new }
+{
+    put_value_line(w, b"max_repeat_run_path", path_name(graph, number));
 }
 
 // The self-links of a node and their orientation pairs.
-pub fn put_links(out: &mut [u8], at: usize, limit: usize, w: NodeWords) -> usize
-    requires { w.bits < 16 }
-    ensures { Wrote limit out.old at (ended
-        (number_line (bytes "direct_self_loop_edges") w.links
-        ∷ line (bytes "link_orientations") (join_with 44 (pairs_from w.bits)) ∷ [])) out.new result }
+pub fn put_links(w: &mut Writer, node: NodeWords)
+    requires { node.bits < 16 }
+    ensures { Puts w.old (ended
+        (number_line (bytes "direct_self_loop_edges") node.links
+        ∷ line (bytes "link_orientations") (join_with 44 (pairs_from node.bits)) ∷ [])) w.new }
 {
-    let first = put_number_line(out, at, limit, b"direct_self_loop_edges", w.links as u64);
-    put_pairs(out, first, limit, w.bits)
+    put_number_line(w, b"direct_self_loop_edges", node.links as u64);
+    put_pairs(w, node.bits);
 }
 
 // The thirteen lines of a node, by the words of its row.
-pub fn put_node_row(
-    out: &mut [u8],
-    at: usize,
-    limit: usize,
-    text: &[u8],
-    work: &[u32],
-    b: Bases,
-    n: Counts,
-    w: NodeWords,
-    c: Counter,
-) -> usize
-    requires { Readable text.now work.now b n × RowReady text.now n w c }
-    ensures { Wrote limit out.old at (ended (node_lines (node_from text.now work.now b w c))) out.new result }
+pub fn put_node_row(w: &mut Writer, graph: &Graph, node: NodeWords, c: Counter)
+    requires { RowReady graph.now.text.now graph.now.n node c }
+    ensures { Puts w.old (ended (node_lines (node_from graph.now.text.now graph.now.work.now graph.now.b node c))) w.new }
 {
-    let first = put_names(out, at, limit, text, w);
-    let second = put_preview_line(out, first, limit, text, work, b, n, w.number);
-    let third = put_links(out, second, limit, w);
-    let fourth = put_counts(out, third, limit, c);
-    put_path_line(out, fourth, limit, text, work, b, n, c.first)
+    put_names(w, graph.text, node);
+    put_preview_line(w, graph, node.number);
+    put_links(w, node);
+    put_counts(w, c);
+    put_path_line(w, graph, c.first);
 }
 
 // The lines of node `k`.
-pub fn put_node(
-    out: &mut [u8],
-    at: usize,
-    limit: usize,
-    text: &[u8],
-    work: &[u32],
-    b: Bases,
-    n: Counts,
-    k: usize,
-) -> usize
-    requires { Readable text.now work.now b n × Printable text.now work.now b n k }
-    ensures { Wrote limit out.old at (ended (node_lines (node_in text.now work.now b n k))) out.new result }
+pub fn put_node(w: &mut Writer, graph: &Graph, k: usize)
+    requires { Printable graph.now.text.now graph.now.work.now graph.now.b graph.now.n k }
+    ensures { Puts w.old (ended (node_lines (node_in graph.now.text.now graph.now.work.now graph.now.b graph.now.n k))) w.new }
 {
-    let table = tables_end(work, b, n);
-    let w = node_at(work, table, k);
-    let c = counter_at(work, table, k);
-    put_node_row(out, at, limit, text, work, b, n, w, c)
+    let table = graph.end();
+    let node = node_at(graph.work, table, k);
+    let c = counter_at(graph.work, table, k);
+    put_node_row(w, graph, node, c);
 }
 
 // The lines of the nodes whose numbers stand from the word `nums` on.
-pub fn put_nodes(
-    out: &mut [u8],
-    at: usize,
-    limit: usize,
-    text: &[u8],
-    work: &[u32],
-    b: Bases,
-    n: Counts,
-    nums: usize,
-    count: usize,
-) -> usize
-    requires { (at ≤ limit) × Listed text.now work.now b n nums count }
-    ensures { Wrote limit out.old at (ended (join (map node_lines (listed text.now work.now b n nums count)))) out.new result }
+pub fn put_nodes(w: &mut Writer, graph: &Graph, nums: usize, count: usize)
+    requires { Listed graph.now.text.now graph.now.work.now graph.now.b graph.now.n nums count }
+    ensures { Puts w.old (ended (join (map node_lines (listed graph.now.text.now graph.now.work.now graph.now.b graph.now.n nums count)))) w.new }
 {
-    let mut next = at;
-    let mut i = 0;
-    while i < count {
-        next = put_node(out, next, limit, text, work, b, n, word(work, nums + i));
-        i += 1;
+    for i in 0..count {
+        put_node(w, graph, word(graph.work, nums + i));
     }
-    next
 }

@@ -1,6 +1,6 @@
 -- The counters of a node: what a run adds, and what they are once some paths are counted.
 use Rattle.std.specs.Prelude.{ℕ, zero, suc, ◌+◌, ◌-◌, ◌≤◌, Bool, false, cond, ◌&&◌, List, [], ◌∷◌, map, ◌≡◌, eqb, leb, ltb, length}
-use Rattle.std.proofs.Math.Option.{Option-elim}
+use Rattle.gfa_spec.specs.Options.{map_or}
 use Rattle.gfa_spec.specs.Bytes.{any, count, join, is_empty}
 use Rattle.gfa_spec.specs.Reading.{Path}
 use Rattle.gfa_spec.specs.Runs.{Run, pairs, bit, same_step}
@@ -57,7 +57,7 @@ finish node path c (r ∷ rs) = finish node path (cond (on node r.step) (counted
 -- the name of the path whose number plus one is given, none for 0
 unfoldable pub named : ℕ → List Path → List ℕ
 named zero ps = []
-named (suc k) ps = Option-elim (nth_path k ps) [] path_name
+named (suc k) ps = map_or (nth_path k ps) [] path_name
 
 -- The counters of a node once these paths are counted.
 pub record CounterOf (node : List ℕ) (ps : List Path) (c : Counter) : Type 0 where

@@ -1,21 +1,25 @@
 -- The node table: a row for each node with a self-link. No width and no place of a row is named above this file and its laws.
 use Rattle.std.specs.Prelude.{ℕ, zero, suc, ◌+◌, ◌*◌, ◌/◌, ◌%◌, ◌≤◌, ◌<◌, Bool, true, false, cond, ◌&&◌, List, [], ◌∷◌, ◌++◌, map, ◌≡◌, eqb, length, get_or}
+use Rattle.std.specs.Prelude.{Option, Some, None}
 use Rattle.gfa_spec.specs.Bytes.{same, any, keep}
 use Rattle.gfa_spec.specs.Reading.{Segment, Link, Path}
 use Rattle.gfa_spec.specs.Records.{segment_number, sequence_or_empty, is_self_link}
 use Rattle.gfa_spec.specs.Runs.{bit}
 use Rattle.gfa_spec.specs.Sequences.{sequence_len}
-use Rattle.work.specs.Rows.{span, Only, word_of}
+use Rattle.scan.specs.declared.places.Place.{Place}
+use Rattle.scan.specs.declared.orientation.Orientation.{Orientation}
+use Rattle.scan.specs.declared.orientation.Orientation.TheVariants.{Forward, Reverse}
+use Rattle.scan.specs.Places.{bytes_in, Inside}
+use Rattle.work.specs.Rows.{span, Only}
 use Rattle.tables.specs.declared.tables.Bases.{Bases}
 use Rattle.tables.specs.declared.tables.Counts.{Counts}
-use Rattle.tables.specs.declared.rows.Place.{Place}
+use Rattle.tables.specs.declared.entry.SegmentNo.{SegmentNo}
 use Rattle.tables.specs.declared.rows.LinkWords.{LinkWords}
-use Rattle.tables.specs.ByNumber.{segments_of, place_at, bytes_in, Inside}
+use Rattle.tables.specs.Segments.{segment_found, FoundBelow}
+use Rattle.tables.specs.ByNumber.{segments_of, place_at}
 use Rattle.report_spec.specs.Nodes.{each_once}
 use Rattle.nodes.specs.declared.counters.Counter.{Counter}
 use Rattle.nodes.specs.declared.nodes.NodeWords.{NodeWords}
-use Rattle.nodes.specs.declared.nodes.TableRow.{TableRow}
-use Rattle.nodes.specs.declared.nodes.TableRow.TheVariants.{At, Nowhere}
 use Rattle.nodes.specs.declared.segment.Known.{Known}
 use Rattle.nodes.specs.Counters.{CounterOf}
 
@@ -25,12 +29,22 @@ use Rattle.nodes.specs.Counters.{CounterOf}
 abbrev pub nodes_end : ℕ → ℕ → ℕ
 nodes_end table m = table + 14 * m
 
+-- the number that a word holds: plus one, or 0 for none
+unfoldable pub numbered : ℕ → Option SegmentNo
+numbered zero = None
+numbered (suc k) = Some (record { 0 = k })
+
+-- the word that holds a number
+unfoldable pub number_word : Option SegmentNo → ℕ
+number_word None = 0
+number_word (Some k) = suc k.0
+
 -- what the links say of node k
 unfoldable pub node_no : List ℕ → ℕ → ℕ → NodeWords
 node_no work table k =
     record {
       name = place_at work (table + 14 * k);
-      number = get_or work (table + 14 * k + 2) 0;
+      number = numbered (get_or work (table + 14 * k + 2) 0);
       long = get_or work (table + 14 * k + 3) 0;
       links = get_or work (table + 14 * k + 4) 0;
       bits = get_or work (table + 14 * k + 5) 0;
@@ -75,7 +89,7 @@ pub record RowPut (work work' : List ℕ) (table k : ℕ) (w : NodeWords) (c : C
 pub record SmallNode (w : NodeWords) : Type 0 where
   pub start : w.name.start < 4294967296
   pub size : w.name.size < 4294967296
-  pub number : w.number < 4294967296
+  pub number : number_word w.number < 4294967296
   pub long : w.long < 4294967296
   pub links : w.links < 4294967296
   pub bits : w.bits < 4294967296
@@ -98,23 +112,26 @@ pub record NodeHas (text work : List ℕ) (table n : ℕ) (name : Place) (k : �
   pub same_name : same (name_no text work table k) (bytes_in text name) ≡ true
 
 -- by the cases of the answer
-abbrev pub SearchSays : List ℕ → List ℕ → ℕ → ℕ → Place → TableRow → Type 0
-SearchSays text work table n name (At k) = NodeHas text work table n name k
-SearchSays text work table n name Nowhere = Elsewhere text work table n name
+abbrev pub SearchSays : List ℕ → List ℕ → ℕ → ℕ → Place → Option ℕ → Type 0
+SearchSays text work table n name (Some k) = NodeHas text work table n name k
+SearchSays text work table n name None = Elsewhere text work table n name
 
 -- What a search for a name finds: a node with that name, or that none has it.
-pub record SearchIs (text work : List ℕ) (table n : ℕ) (name : Place) (r : TableRow) : Type 0 where
+pub record SearchIs (text work : List ℕ) (table n : ℕ) (name : Place) (r : Option ℕ) : Type 0 where
   pub says : SearchSays text work table n name r
 
 -- ---- orientation pairs
 
 -- the weight of a pair
-unfoldable pub weight_of : ℕ → ℕ → ℕ
-weight_of a b = cond (eqb a 43) (cond (eqb b 43) 1 (cond (eqb b 45) 2 0)) (cond (eqb a 45) (cond (eqb b 43) 4 (cond (eqb b 45) 8 0)) 0)
+abbrev pub weight_of : Orientation → Orientation → ℕ
+weight_of Forward Forward = 1
+weight_of Forward Reverse = 2
+weight_of Reverse Forward = 4
+weight_of Reverse Reverse = 8
 
 -- pairs by their weights, with one more
-unfoldable pub marked_of : ℕ → ℕ → ℕ → ℕ
-marked_of bits a b = cond (eqb (weight_of a b) 0) bits (cond (eqb (bits / weight_of a b % 2) 1) bits (bits + weight_of a b))
+unfoldable pub marked_of : ℕ → Orientation → Orientation → ℕ
+marked_of bits a b = cond (eqb (bits / weight_of a b % 2) 1) bits (bits + weight_of a b)
 
 -- a row with a link more
 abbrev pub row_with_link : NodeWords → LinkWords → NodeWords
@@ -136,9 +153,9 @@ bits_of ls = code (any (is_pair 43 43) ls) (any (is_pair 43 45) ls) (any (is_pai
 
 -- What is said of the segment of a name.
 pub record KnownIs (text work : List ℕ) (b : Bases) (n : Counts) (name : Place) (r : Known) : Type 0 where
-  pub number : r.number ≡ word_of (segment_number (segments_of text work b n) (bytes_in text name))
+  pub number : r.number ≡ segment_found (segment_number (segments_of text work b n) (bytes_in text name))
   pub long : r.long ≡ sequence_len (sequence_or_empty (segments_of text work b n) (bytes_in text name))
-  pub small : r.number ≤ n.segs
+  pub below : FoundBelow n.segs r.number
   pub short : r.long ≤ length text
 
 -- ---- the table
@@ -149,7 +166,7 @@ links_among ls node = keep (λ l. same l.from node && same l.to node) ls
 
 -- What the links say of a row's node.
 pub record LinkCounts (text : List ℕ) (ss : List Segment) (ls : List Link) (w : NodeWords) : Type 0 where
-  pub number : w.number ≡ word_of (segment_number ss (bytes_in text w.name))
+  pub number : w.number ≡ segment_found (segment_number ss (bytes_in text w.name))
   pub long : w.long ≡ sequence_len (sequence_or_empty ss (bytes_in text w.name))
   pub links : w.links ≡ length (links_among ls (bytes_in text w.name))
   pub bits : w.bits ≡ bits_of (links_among ls (bytes_in text w.name))

@@ -1,8 +1,7 @@
 // What is counted of a node over the paths.
-ghost use Rattle.std.specs.Prelude.{cond, ◌≡◌, ◌+◌, ◌-◌, ◌≤◌, eqb, leb, length};
-ghost use Rattle.gfa_spec.specs.Runs.{bit};
+ghost use Rattle.std.specs.Prelude.{◌≡◌, ◌+◌, ◌≤◌, length};
 ghost use Rattle.work.specs.Rows.{Small};
-ghost use Rattle.nodes.specs.Counters.{is_longer, counted_of, counter_words, CounterFits};
+ghost use Rattle.nodes.specs.Counters.{counted_of, counter_words, CounterFits};
 ghost use Rattle.nodes.specs.Table.{nodes_end, node_no, counter_no, RowPut};
 
 use work::work::{put_row, word};
@@ -22,6 +21,7 @@ pub struct Counter {
 }
 
 // The counters of node `k`.
+#[tactic(auto, unfolding(crate::specs::Table::counter_no))]
 pub fn counter_at(work: &[u32], table: usize, k: usize) -> Counter
     requires { nodes_end table (k + 1) ≤ length work.now }
     ensures { result ≡ counter_no work.now table k }
@@ -50,77 +50,27 @@ pub fn put_counter(work: &mut [u32], table: usize, k: usize, c: Counter)
     put_row(work, table + 14 * k + 6, &row);
 }
 
-// The paths that visit the node, with this one.
-fn paths_with(c: Counter, path: usize) -> usize
-    requires { (c.paths ≤ 2097152) × (path ≤ 2097152) }
-    ensures { result ≡ cond (eqb c.last (path + 1)) c.paths (c.paths + 1) }
-{
-    if c.last == path + 1 {
-        return c.paths;
-    }
-    c.paths + 1
-}
-
-// The adjacent pairs on the node in a run, and with the step behind it.
-fn pairs_in(times: usize, more: bool) -> usize
-    requires { 1 ≤ times }
-    ensures { (result ≡ times - 1 + bit more) × (result ≤ times) }
-{
-    if more {
-        return times;
-    }
-    times - 1
-}
-
-// 1 for a run of two or more.
-fn repeats_in(times: usize) -> usize
-    ensures { (result ≡ bit (leb 2 times)) × (result ≤ 1) }
-{
-    if 2 <= times {
-        return 1;
-    }
-    0
-}
-
-// Is the run one of two or more, and longer than those before it?
-fn is_longer(c: Counter, times: usize) -> bool
-    ensures { result ≡ is_longer c times }
-{
-    if times < 2 {
-        return false;
-    }
-    c.longest < times
-}
-
 // The counters with a run of `times` steps on the path of this number; `more`: the step behind the run is on the node too.
+#[tactic(auto, unfolding(gfa_spec::specs::Runs::bit, crate::specs::Counters::is_longer))]
 pub fn counted(c: Counter, times: usize, path: usize, more: bool) -> Counter
     requires { CounterFits times path c × (1 ≤ times) × (path ≤ 2097151) }
     ensures { result ≡ counted_of c times path more }
 {
-    let paths = paths_with(c, path);
-    let adjacent = c.adjacent + pairs_in(times, more);
-    let equal = c.equal + (times - 1);
-    let runs = c.runs + repeats_in(times);
-    if is_longer(c, times) {
-        return Counter {
-            visits: c.visits + times,
-            paths,
-            last: path + 1,
-            adjacent,
-            equal,
-            runs,
-            longest: times,
-            first: path + 1,
-        };
+    let with = Counter {
+        visits: c.visits + times,
+        paths: c.paths + usize::from(c.last != path + 1),
+        last: path + 1,
+        adjacent: c.adjacent + (times - 1) + usize::from(more),
+        equal: c.equal + (times - 1),
+        runs: c.runs + usize::from(2 <= times),
+        ..c
+    };
+    if times < 2 || times <= c.longest {
+        return with;
     }
     Counter {
-        visits: c.visits + times,
-        paths,
-        last: path + 1,
-        adjacent,
-        equal,
-        runs,
-        longest: c.longest,
-        first: c.first,
+        longest: times,
+        first: path + 1,
+        ..with
     }
 }

@@ -1,30 +1,48 @@
 // The node table: a row of fourteen words for each node with a self-link, in the order of first self-links. Its words: start and length
 // of the name, the segment's number plus one or 0, the sequence's length, self-links, their orientation pairs, and eight counters.
 ghost use Rattle.std.specs.Prelude.{◌≡◌, ◌+◌, ◌≤◌, ◌<◌, length};
-ghost use Rattle.tables.specs.ByNumber.{Inside};
+ghost use Rattle.scan.specs.Places.{Inside};
 ghost use Rattle.nodes.specs.Counters.{no_counter};
-ghost use Rattle.nodes.specs.Table.{nodes_end, node_no, NodeRead, counter_no, RowPut, SmallNode, NamesInside, SearchIs, weight_of, marked_of, row_with_link};
+ghost use Rattle.nodes.specs.Table.{nodes_end, node_no, NodeRead, counter_no, RowPut, SmallNode, NamesInside, SearchIs, numbered, number_word, weight_of, marked_of, row_with_link};
 
 use crate::counters::{Counter, put_counter};
 use scan::names::same_name;
-use tables::rows::{LinkWords, Place};
+use scan::orientation::Orientation;
+use scan::places::Place;
+use tables::entry::SegmentNo;
+use tables::rows::LinkWords;
 use work::work::{put_row, word};
 
-// What the links say of a node: its name, its segment's number plus one or 0, the sequence's length, its self-links, their pairs.
+// What the links say of a node: its name, its segment's number, the sequence's length, its self-links, their pairs.
 #[derive(Clone, Copy)]
 pub struct NodeWords {
     pub name: Place,
-    pub number: usize,
+    pub number: Option<SegmentNo>,
     pub long: usize,
     pub links: usize,
     pub bits: usize,
 }
 
-// The number of a node; or none.
-#[derive(Clone, Copy)]
-pub enum TableRow {
-    At(usize),
-    Nowhere,
+// The number that a word holds: plus one, or 0 for none.
+#[tactic(auto, unfolding(crate::specs::Table::numbered))]
+fn numbered(word: u32) -> Option<SegmentNo>
+    ensures { result ≡ numbered word }
+{
+    if word == 0 {
+        return None;
+    }
+    Some(SegmentNo(word - 1))
+}
+
+// The word that holds a number.
+#[tactic(auto, unfolding(crate::specs::Table::number_word))]
+fn number_word(number: Option<SegmentNo>) -> usize
+    ensures { result ≡ number_word number }
+{
+    match number {
+        Some(k) => k.0 as usize + 1,
+        None => 0,
+    }
 }
 
 // The word behind the first `m` rows.
@@ -36,6 +54,7 @@ pub fn nodes_end(work: &[u32], table: usize, m: usize) -> usize
 }
 
 // What the links say of node `k`.
+#[tactic(auto, unfolding(crate::specs::Table::node_no))]
 pub fn node_at(work: &[u32], table: usize, k: usize) -> NodeWords
     requires { nodes_end table (k + 1) ≤ length work.now }
     ensures { NodeRead work.now table k result }
@@ -47,7 +66,7 @@ pub fn node_at(work: &[u32], table: usize, k: usize) -> NodeWords
     };
     NodeWords {
         name,
-        number: word(work, at + 2),
+        number: numbered(work[at + 2]),
         long: word(work, at + 3),
         links: word(work, at + 4),
         bits: word(work, at + 5),
@@ -59,7 +78,14 @@ pub fn put_node(work: &mut [u32], table: usize, k: usize, w: NodeWords)
     requires { (nodes_end table (k + 1) ≤ length work.old) × SmallNode w }
     ensures { RowPut work.old work.new table k w no_counter }
 {
-    let row = [w.name.start, w.name.size, w.number, w.long, w.links, w.bits];
+    let row = [
+        w.name.start,
+        w.name.size,
+        number_word(w.number),
+        w.long,
+        w.links,
+        w.bits,
+    ];
     put_row(work, table + 14 * k, &row);
     let none = Counter {
         visits: 0,
@@ -74,59 +100,41 @@ pub fn put_node(work: &mut [u32], table: usize, k: usize, w: NodeWords)
     put_counter(work, table, k, none);
 }
 
-// The node of `count` that has the name.
-pub fn find_row(text: &[u8], work: &[u32], table: usize, count: usize, name: Place) -> TableRow
+// The number of the node, of `count`, that has the name.
+#[tactic(auto, using(crate::proofs::Finding::finding))]
+pub fn find_row(text: &[u8], work: &[u32], table: usize, count: usize, name: Place) -> Option<usize>
     requires { NamesInside text.now work.now table count × Inside text.now name }
     ensures { SearchIs text.now work.now table count name result }
 {
-    let mut i = 0;
-    while i < count {
+    for i in 0..count {
         let here = node_at(work, table, i).name;
-        if same_name(text, here.start, here.size, name.start, name.size) {
-            return TableRow::At(i);
+        if same_name(text, here, name) {
+            return Some(i);
         }
-        i += 1;
     }
-    TableRow::Nowhere
+    None
 }
 
 // The weight of an orientation pair: ++ 1, +- 2, -+ 4, -- 8.
-pub fn weight(from: usize, to: usize) -> usize
-    ensures { (result ≡ weight_of from to) × (result ≤ 8) }
+pub fn weight(from: Orientation, to: Orientation) -> usize
+    ensures { (result ≡ weight_of from to) × (1 ≤ result) × (result ≤ 8) }
 {
-    if from == 43 {
-        if to == 43 {
-            return 1;
-        }
-        if to == 45 {
-            return 2;
-        }
-        return 0;
+    match (from, to) {
+        (Orientation::Forward, Orientation::Forward) => 1,
+        (Orientation::Forward, Orientation::Reverse) => 2,
+        (Orientation::Reverse, Orientation::Forward) => 4,
+        (Orientation::Reverse, Orientation::Reverse) => 8,
     }
-    if from == 45 {
-        if to == 43 {
-            return 4;
-        }
-        if to == 45 {
-            return 8;
-        }
-    }
-    0
 }
 
 // The orientation pairs with one more.
-pub fn marked(bits: usize, from: usize, to: usize) -> usize
+#[tactic(auto, unfolding(crate::specs::Table::marked_of))]
+pub fn marked(bits: usize, from: Orientation, to: Orientation) -> usize
     requires { bits < 16 }
     ensures { (result ≡ marked_of bits from to) × (result < 24) }
 {
     let w = weight(from, to);
-    if w == 0 {
-        return bits;
-    }
-    if bits / w % 2 == 1 {
-        return bits;
-    }
-    bits + w
+    if bits / w % 2 == 1 { bits } else { bits + w }
 }
 
 // Counts a link for node `k`.

@@ -11,8 +11,8 @@ use Rattle.tables.specs.declared.tables.Counts.{Counts}
 use Rattle.tables.specs.Segments.{ids_of}
 use Rattle.tables.specs.Entries.{entries_at}
 use Rattle.reader.specs.Inputs.{InputRead, InputIs}
-use Rattle.reader.specs.declared.input.Input.{Input}
-use Rattle.reader.specs.declared.input.Input.TheVariants as input
+use Rattle.std.specs.Prelude.{Result, Ok}
+use Rattle.refusals.specs.declared.refusal.Refusal.{Refusal}
 use Rattle.reader.proofs.Serving.{was_read}
 use Rattle.runs.proofs.Totals.{over_entries}
 use Rattle.normalize.specs.Loaded.{Loaded}
@@ -30,5 +30,5 @@ read_loaded {text} {before} {w} {b} {n} h =
       visits = over_entries h.tables length ∙ h.tables.visits;
     }
 
-pub input_loaded : {text before w : List ℕ} {k : Input} {b : Bases} {n : Counts} → InputIs text before w k → k ≡ input.Tables b n → Loaded text w b n
+pub input_loaded : {text before w : List ℕ} {k : Result (Bases × Counts) Refusal} {b : Bases} {n : Counts} → InputIs text before w k → k ≡ Ok (b, n) → Loaded text w b n
 input_loaded h e = read_loaded (was_read h e)

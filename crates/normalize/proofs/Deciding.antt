@@ -14,16 +14,15 @@ use Rattle.gfa_spec.proofs.Tests.{by_test}
 use Rattle.normalize_spec.specs.Folding.{eligible, is_folded, folded}
 use Rattle.normalize_spec.specs.Counting.{unchanged}
 use Rattle.normalize_spec.specs.Services.{normal, normal_fitted, normalize_entries, normalize}
-use Rattle.reader.specs.declared.answers.Answer.{Answer}
-use Rattle.reader.specs.declared.input.Input.{Input}
-use Rattle.reader.specs.declared.input.Input.TheVariants as input
+use Rattle.std.specs.Prelude.{Result, Ok, Err}
+use Rattle.refusals.specs.declared.refusal.Refusal.{Refusal}
+use Rattle.normalize_answers.specs.declared.written.Written.{Written}
 use Rattle.tables.specs.declared.tables.Bases.{Bases}
 use Rattle.tables.specs.declared.tables.Counts.{Counts}
 use Rattle.tables.specs.Entries.{entries_at}
 use Rattle.tables.specs.ByNumber.{tables_end}
-use Rattle.reader.specs.Inputs.{stated, InputIs}
+use Rattle.reader.specs.Inputs.{InputIs}
 use Rattle.runs.specs.Counts.{over_rows}
-use Rattle.reader.specs.Served.{refused_with}
 use Rattle.reader.proofs.Serving.{was_read}
 use Rattle.work.proofs.Rows.{KeptWords}
 use Rattle.normalize_tables.specs.declared.layout.Layout.{Layout}
@@ -31,10 +30,9 @@ use Rattle.normalize_tables.specs.Layout.{Placed, Source}
 use Rattle.normalize_tables.specs.Marks.{Marked}
 use Rattle.normalize_tables.proofs.Sources.{standing, source_stands}
 use Rattle.targets.specs.Marking.{MarkedIs, AnyIs}
-use Rattle.normalize_answers.specs.declared.returning.NormalizeSelfLoopsResult.{NormalizeSelfLoopsResult}
 use Rattle.normalize_answers.specs.declared.stats.NormalizeSelfLoopsStats.{NormalizeSelfLoopsStats}
-use Rattle.normalize_answers.specs.Counters.{no_counters, counters, input_counters, InputStats}
-use Rattle.normalize_answers.specs.Answered.{NormalAnswered}
+use Rattle.normalize_answers.specs.Counters.{counters, input_counters, InputStats}
+use Rattle.normalize_answers.specs.Answered.{NormalTold}
 use Rattle.normalize_answers.specs.Tied.{Tied}
 use Rattle.normalize.specs.Loaded.{Loaded, Decided}
 use Rattle.normalize.specs.declared.services.Decision.{Decision}
@@ -103,32 +101,32 @@ module _ {text w : List ℕ} {b : Bases} {n : Counts} {g : Layout} (l : Loaded t
 
 -- ---- the answer to the tables
 
-module _ {text : List ℕ} {cap : ℕ} {w w' : List ℕ} {b : Bases} {n : Counts} {d : Decision} {out out' : List ℕ} {r : NormalizeSelfLoopsResult} (h : Decided text cap w w' b n d) where
+module _ {text : List ℕ} {cap : ℕ} {w w' : List ℕ} {b : Bases} {n : Counts} {d : Decision} {out out' : List ℕ} (r : Result Written Refusal) (h : Decided text cap w w' b n d) where
   -- folded
   pub tables_folded : d.any ≡ true → FoldTextIs text w' b n d.g d.stats out out' r
-      → NormalAnswered out out' r (normal_fitted (length out) (normalize_entries text cap (calls.entries (entries_at text w b n.lines))))
+      → NormalTold out out' r (normal_fitted (length out) (normalize_entries text cap (calls.entries (entries_at text w b n.lines))))
   unfolding normalize_entries
   tables_folded e f = rw (← h.same, h.none, e) (f.folds _ cap h.tied h.marked h.counted)
 
   -- returned
-  pub tables_returned : d.any ≡ false → NormalAnswered out out' r (normal_fitted (length out) (normal text (counters d.stats)))
-      → NormalAnswered out out' r (normal_fitted (length out) (normalize_entries text cap (calls.entries (entries_at text w b n.lines))))
+  pub tables_returned : d.any ≡ false → NormalTold out out' r (normal_fitted (length out) (normal text (counters d.stats)))
+      → NormalTold out out' r (normal_fitted (length out) (normalize_entries text cap (calls.entries (entries_at text w b n.lines))))
   unfolding normalize_entries
   tables_returned e f = rw (← h.same, h.none, e, ← h.counted) f
 
 -- ---- the answer to the text
 
 -- the text is refused
-pub text_refused : {text before work out : List ℕ} {k : Input} {q p : Answer} {r : NormalizeSelfLoopsResult} (cap : ℕ) → InputIs text before work k → k ≡ input.Refused q
-    → p ≡ refused_with k → r.answer ≡ p → counters r.stats ≡ no_counters → NormalAnswered out out r (normalize text cap (length out) (length before))
+pub text_refused : {text before work out : List ℕ} {k : Result (Bases × Counts) Refusal} {q : Refusal} (cap : ℕ) → InputIs text before work k → k ≡ Err q
+    → NormalTold out out (Err q) (normalize text cap (length out) (length before))
 unfolding normalize normalize_entries normal_fitted
-text_refused {text} {before} {out = out} {q = q} cap h e a f c =
+text_refused {text} {before} {out = out} {q = q} cap h e =
     let says = ap (λ i. normal_fitted (length out) (normalize_entries text cap i)) (rw e at h.says) in
-    refuses (stated q) (normalize text cap (length out) (length before)) says (f ∙ a ∙ ap refused_with e) c refl
+    refuses q (normalize text cap (length out) (length before)) says
 
 -- and any other
-pub text_answered : {text before work out out' : List ℕ} {k : Input} {b : Bases} {n : Counts} {r : NormalizeSelfLoopsResult} (cap : ℕ) → InputIs text before work k → k ≡ input.Tables b n
-    → NormalAnswered out out' r (normal_fitted (length out) (normalize_entries text cap (calls.entries (entries_at text work b n.lines))))
-    → NormalAnswered out out' r (normalize text cap (length out) (length before))
+pub text_answered : {text before work out out' : List ℕ} {k : Result (Bases × Counts) Refusal} {b : Bases} {n : Counts} (r : Result Written Refusal) (cap : ℕ) → InputIs text before work k → k ≡ Ok (b, n)
+    → NormalTold out out' r (normal_fitted (length out) (normalize_entries text cap (calls.entries (entries_at text work b n.lines))))
+    → NormalTold out out' r (normalize text cap (length out) (length before))
 unfolding normalize
-text_answered cap h e a = rw (was_read h e).read a
+text_answered r cap h e a = rw (was_read h e).read a

@@ -14,7 +14,11 @@ use Rattle.normalize_spec.proofs.ServiceRefusals.{normalize_numbers}
 use Rattle.reader.specs.Served.{answer_of, output_of}
 use Rattle.normalize_answers.specs.declared.returning.NormalizeSelfLoopsResult.{NormalizeSelfLoopsResult}
 use Rattle.normalize_answers.specs.Counters.{counters}
-use Rattle.normalize_answers.specs.Answered.{outcome_of, stats_of, NormalAnswered}
+use Rattle.normalize_answers.specs.Answered.{outcome_of, stats_of, ReturnedIs, NormalTold, NormalAnswered}
+use Rattle.normalize_answers.specs.declared.written.Written.{Written}
+use Rattle.normalize_answers.proofs.Answering.{returned}
+use Rattle.refusals.specs.declared.refusal.Refusal.{Refusal}
+use Rattle.std.specs.Prelude.{Result}
 use Rattle.normalize.specs.Served.{Keeps, LooserFolds, Normalized}
 
 module _ (text : List ℕ) (cap : ℕ) {out out' : List ℕ} (size : ℕ) {r : NormalizeSelfLoopsResult} where
@@ -43,13 +47,11 @@ module _ (text : List ℕ) (cap : ℕ) {out out' : List ℕ} (size : ℕ) {r : N
       record { monotone = λ es after-c after-d reads reads-c reads-d. normalize_monotone text cap d (length out) room size words _ _ _ _ l here e es after-c after-d reads reads-c reads-d }
 
   -- the call as it is returned, once the work area is cleared, however it was left
-  pub normalized : {work' : List ℕ} (mid : List ℕ) → NormalAnswered out out' r (normalize text cap (length out) size) → work' ≡ replicate (length mid) 0 → length mid ≡ size
-      → Normalized text cap out out' size work' r
-  normalized mid a e l = record { answer = a.answer; stats = a.stats; output = a.output; cleared = e ∙ rw l; kept = keeps a; folds = folds a }
-
--- the settings hold the cap
-pub capped : {text out out' work' : List ℕ} {c cap size : ℕ} {r : NormalizeSelfLoopsResult} → c ≡ cap → Normalized text c out out' size work' r → Normalized text cap out out' size work' r
-capped e h = rw e at h
+  pub normalized : {work' : List ℕ} (k : Result Written Refusal) (mid : List ℕ) → NormalTold out out' k (normalize text cap (length out) size) → ReturnedIs k r
+      → work' ≡ replicate (length mid) 0 → length mid ≡ size → Normalized text cap out out' size work' r
+  normalized k mid h i e l =
+      let a = returned k h i in
+      record { answer = a.answer; stats = a.stats; output = a.output; cleared = e ∙ rw l; kept = keeps a; folds = folds a }
 
 -- ---- two calls
 

@@ -8,16 +8,19 @@ ghost use Rattle.std.specs.Prelude.{length};
 ghost use Rattle.gfa_spec.specs.Calls.{entries};
 ghost use Rattle.normalize_spec.specs.Services.{normal_fitted, normalize_entries, normalize};
 ghost use Rattle.tables.specs.Entries.{entries_at};
-ghost use Rattle.normalize_answers.specs.Answered.{NormalAnswered};
+ghost use Rattle.normalize_answers.specs.Answered.{NormalTold};
 ghost use Rattle.normalize.specs.Served.{Normalized};
 ghost use Rattle.normalize.specs.Loaded.{Loaded, Decided};
 
 use crate::config::NormalizeSelfLoopsConfig;
 use normalize_answers::folding::fold_text;
-use normalize_answers::returning::{NormalizeSelfLoopsResult, refused, return_text};
+use normalize_answers::returning::{NormalizeSelfLoopsResult, return_text};
 use normalize_answers::stats::{NormalizeSelfLoopsStats, input_stats};
+use normalize_answers::written::Written;
 use normalize_tables::layout::{Layout, layout_of};
-use reader::input::{Input, parse_gfa, refused_with};
+use reader::input::parse_gfa;
+use refusals::refusal::Refusal;
+use tables::graph::Graph;
 use tables::tables::{Bases, Counts};
 use targets::eligible::mark_eligible;
 use targets::folded::any_folded;
@@ -36,10 +39,12 @@ fn decide(text: &[u8], cap: usize, work: &mut [u32], b: Bases, n: Counts) -> Dec
     requires { Loaded text.now work.old b n }
     ensures { Decided text.now cap work.old work.new b n result }
 {
-    let stats = input_stats(text, work, b, n);
+    let graph = Graph { text, work, b, n };
+    let stats = input_stats(&graph);
     let g = layout_of(work, b, n);
     mark_eligible(text, work, b, n, g, cap);
-    let any = any_folded(text, work, b, n, g);
+    let marked = Graph { text, work, b, n };
+    let any = any_folded(&marked, g);
     Decision { g, stats, any }
 }
 
@@ -51,18 +56,16 @@ fn answer_tables(
     work: &mut [u32],
     b: Bases,
     n: Counts,
-) -> NormalizeSelfLoopsResult
+) -> Result<Written, Refusal>
     requires { Loaded text.now work.old b n }
-    ensures { NormalAnswered out.old out.new result
+    ensures { NormalTold out.old out.new result
         (normal_fitted (length out.old) (normalize_entries text.now cap (entries (entries_at text.now work.old b n.lines)))) }
 {
     let d = decide(text, cap, work, b, n);
-    let g = d.g;
-    let stats = d.stats;
     if d.any {
-        return fold_text(text, work, b, n, g, stats, out);
+        return fold_text(text, work, b, n, d.g, d.stats, out);
     }
-    return_text(text, out, stats)
+    return_text(text, out, d.stats)
 }
 
 // The answer: refusals 1 to 17, then 18 and 19, then 22. The work area holds the tables.
@@ -71,13 +74,10 @@ fn answer_normalize(
     cap: usize,
     out: &mut [u8],
     work: &mut [u32],
-) -> NormalizeSelfLoopsResult
-    ensures { NormalAnswered out.old out.new result (normalize text.now cap (length out.old) (length work.old)) }
+) -> Result<Written, Refusal>
+    ensures { NormalTold out.old out.new result (normalize text.now cap (length out.old) (length work.old)) }
 {
-    let input = parse_gfa(text, work);
-    let Input::Tables(b, n) = input else {
-        return refused(refused_with(input));
-    };
+    let (b, n) = parse_gfa(text, work)?;
     answer_tables(text, cap, out, work, b, n)
 }
 
@@ -90,9 +90,9 @@ pub fn normalize_repeat_self_loops(
 ) -> NormalizeSelfLoopsResult
     ensures { Normalized text.now config.max_unit_len out.old out.new (length work.old) work.new result }
 {
-    let result = answer_normalize(text, config.max_unit_len, out, work);
+    let told = answer_normalize(text, config.max_unit_len, out, work);
     clear(work);
-    result
+    NormalizeSelfLoopsResult::from(told)
 }
 
 // The same with no cap.

@@ -36,12 +36,18 @@ use Rattle.relink.specs.declared.settle.Links.{Links}
 use Rattle.relink.specs.Relinking.{SettledIs}
 use Rattle.link_ends.specs.LinkEnds.{Relinkable}
 use Rattle.rewrite.specs.Rewriting.{rewritten_from, WroteText}
-use Rattle.reader.specs.declared.answers.Answer.{Answer}
+use Rattle.std.specs.Prelude.{Result, Ok, Err}
+use Rattle.refusals.specs.declared.refusal.Refusal.{Refusal}
+use Rattle.refusals.specs.Refusals.{stated}
+use Rattle.gfa_spec.specs.Calls.{plainly}
+use Rattle.writers.specs.declared.writer.Writer.{Writer}
+use Rattle.writers.specs.Writers.{Starts}
+use Rattle.reader.proofs.Serving.{begun}
+use Rattle.normalize_answers.specs.declared.written.Written.{Written}
 use Rattle.normalize_answers.specs.declared.rewriting.Passed.{Passed}
-use Rattle.normalize_answers.specs.declared.returning.NormalizeSelfLoopsResult.{NormalizeSelfLoopsResult}
 use Rattle.normalize_answers.specs.declared.stats.NormalizeSelfLoopsStats.{NormalizeSelfLoopsStats}
-use Rattle.normalize_answers.specs.Counters.{no_counters, counters, rewritten_counters}
-use Rattle.normalize_answers.specs.Answered.{NormalAnswered}
+use Rattle.normalize_answers.specs.Counters.{counters, rewritten_counters}
+use Rattle.normalize_answers.specs.Answered.{NormalTold}
 use Rattle.normalize_answers.specs.Tied.{Tied}
 use Rattle.normalize_answers.specs.Folding.{Marks, RewriteIs, PassedIs, Writable, WriteIs}
 use Rattle.normalize_answers.proofs.Answering.{no_room, room}
@@ -49,21 +55,20 @@ use Rattle.normalize_answers.proofs.Tying.{tied_stands, news_are, paths_are, run
 
 -- ---- measured, and then refused or written
 
-module _ {text w : List ℕ} {b : Bases} {n : Counts} {g : Layout} {m : Made} {extra : ℕ} {stats : NormalizeSelfLoopsStats} {need : ℕ} {blank blank' out : List ℕ} {q : Answer}
-    (h : WroteText (length out + 1) blank text w b n g m extra blank' need) where
-  pub write_full : {r : NormalizeSelfLoopsResult} → length out < need → q ≡ record { number = 22; line = 0; from = 0; length = 0 } → r.answer ≡ q → counters r.stats ≡ no_counters
-      → WriteIs text w b n g m extra stats out out r
-  write_full l p f c = record { writes = λ fs k. no_room _ _ (measured_long (h.wrote fs k) l) (f ∙ p) c refl }
+module _ {text w : List ℕ} {b : Bases} {n : Counts} {g : Layout} {m : Made} {extra : ℕ} {stats : NormalizeSelfLoopsStats} {blank out : List ℕ} {u v : Writer}
+    (s : Starts blank (length out + 1) u) (h : WroteText u text w b n g m extra v) where
+  pub write_full : (q : Refusal) → length out < v.at → stated q ≡ plainly 22 → WriteIs text w b n g m extra stats out out (Err q)
+  write_full q l e = record { writes = λ fs k. no_room q _ _ (measured_long (begun s (h.puts fs k)) l) e }
 
-  pub write_all : {out' : List ℕ} {next : ℕ} → need ≤ length out → WroteText (length out + 1) out text w b n g m extra out' next
-      → q ≡ record { number = 0; line = 0; from = 0; length = need } → WriteIs text w b n g m extra stats out out' (record { answer = q; stats = stats })
-  write_all {out'} l v f = record { writes = λ fs k. fits fs k }
+  pub write_all : {x y : Writer} {out' : List ℕ} → v.at ≤ length out → Starts out (length out + 1) x → WroteText x text w b n g m extra y → out' ≡ y.out.now
+      → WriteIs text w b n g m extra stats out out' (Ok (record { length = v.at; stats = stats }))
+  write_all {out' = out'} l t p i = record { writes = λ fs k. fits fs k }
     where
       fits : (fs : List Segment) → Relinked text w b n g fs m extra
-          → NormalAnswered out out' (record { answer = q; stats = stats }) (normal_fitted (length out) (normal (rewritten_from text w b n g fs m extra) (counters stats)))
+          → NormalTold out out' (Ok (record { length = v.at; stats = stats })) (normal_fitted (length out) (normal (rewritten_from text w b n g fs m extra) (counters stats)))
       fits fs k =
-          let long : need ≡ length (rewritten_from text w b n g fs m extra) = measured (h.wrote fs k) l in
-          room (rewritten_from text w b n g fs m extra) (counters stats) (omega arith) (f ∙ rw long) refl (written (omega arith) (omega arith) (v.wrote fs k))
+          let long : v.at ≡ length (rewritten_from text w b n g fs m extra) = measured (begun s (h.puts fs k)) l in
+          room (rewritten_from text w b n g fs m extra) (counters stats) (omega arith) long refl (i ∙ written (omega arith) (omega arith) (begun t (p.puts fs k)))
 
 -- ---- the transformation
 
@@ -213,13 +218,13 @@ passed s k t a q =
 
 -- ---- rule 7
 
-pub rewrites : {text w u : List ℕ} {b : Bases} {n : Counts} {g : Layout} {p : Passed} {nodes : ℕ} {stats counted : NormalizeSelfLoopsStats} {out out' : List ℕ} {r : NormalizeSelfLoopsResult}
+pub rewrites : {text w u : List ℕ} {b : Bases} {n : Counts} {g : Layout} {p : Passed} {nodes : ℕ} {stats counted : NormalizeSelfLoopsStats} {out out' : List ℕ} (r : Result Written Refusal)
     → PassedIs text w u b n g p → counters counted ≡ rewritten_counters (counters stats) nodes p.m p.l p.pairs → WriteIs text u b n g p.m p.l.added counted out out' r
     → RewriteIs text w b n g nodes stats out out' r
-rewrites {text} {w} {b = b} {n} {g} {p} {nodes} {stats} {counted} {out} {out'} {r} a c x = record { rewrites = λ es cap e h k y. there es cap e h k y }
+rewrites {text} {w} {b = b} {n} {g} {p} {nodes} {stats} {counted} {out} {out'} r a c x = record { rewrites = λ es cap e h k y. there es cap e h k y }
   where
     there : (es : List Entry) (cap : ℕ) → Tied es text w b n → Marked (is_folded es cap) text w b n g.folded → nodes ≡ length (folded es cap) → counters stats ≡ unchanged es
-        → NormalAnswered out out' r (normal_fitted (length out) (normal (rewritten es cap) (rewritten_stats es cap)))
+        → NormalTold out out' r (normal_fitted (length out) (normal (rewritten es cap) (rewritten_stats es cap)))
     there es cap e h k y =
         let made = a.passes es cap e h in
         let same-stats : counters counted ≡ rewritten_stats es cap = c ∙ rw y (made.same_counters k) in

@@ -4,8 +4,8 @@ use native.Mathlib.Omega.{arith}
 use mathlib.Core.Bool.{Bool}
 use mathlib.Core.List.{List, [], ◌∷◌}
 use mathlib.Core.Logic.{inl}
-use mathlib.Core.Option.{some}
-use mathlib.Core.Path.{◌≡◌, refl, sym, ap, ◌∙◌}
+use Rattle.std.specs.Prelude.{Some, Result, Ok, Err}
+use mathlib.Core.Path.{◌≡◌, refl, sym, ◌∙◌}
 use lib.ListN.{length}
 use Rattle.gfa_spec.specs.Bytes.{count, keep}
 use Rattle.gfa_spec.specs.Reading.{Entry}
@@ -18,13 +18,11 @@ use Rattle.normalize_spec.specs.Services.{fold, normal_fitted}
 use Rattle.normalize_spec.proofs.Demand.{fold_accepts}
 use Rattle.work.specs.Rows.{span, Only}
 use Rattle.work.proofs.Rows.{KeptWords, only_kept}
-use Rattle.reader.specs.declared.answers.Answer.{Answer}
-use Rattle.spelling.specs.declared.spelling.Steps.{Steps}
-use Rattle.spelling.specs.declared.spelling.Steps.TheVariants as steps
+use Rattle.refusals.specs.declared.refusal.Refusal.{Refusal}
+use Rattle.refusals.specs.Refusals.{stated}
 use Rattle.tables.specs.declared.tables.Bases.{Bases}
 use Rattle.tables.specs.declared.tables.Counts.{Counts}
 use Rattle.tables.specs.ByNumber.{tables_end}
-use Rattle.reader.specs.Inputs.{stated}
 use Rattle.spelling.specs.Spelled.{BadStepIs}
 use Rattle.normalize_tables.specs.declared.layout.Layout.{Layout}
 use Rattle.normalize_tables.specs.Layout.{Source}
@@ -33,12 +31,12 @@ use Rattle.normalize_tables.proofs.Sources.{standing, source_stands}
 use Rattle.targets.specs.Marking.{MarkFoldedIs}
 use Rattle.fold.specs.Transforms.{AllKnown}
 use Rattle.fold.proofs.Knowns.{all_known}
-use Rattle.normalize_answers.specs.declared.returning.NormalizeSelfLoopsResult.{NormalizeSelfLoopsResult}
+use Rattle.normalize_answers.specs.declared.written.Written.{Written}
 use Rattle.normalize_answers.specs.declared.stats.NormalizeSelfLoopsStats.{NormalizeSelfLoopsStats}
-use Rattle.normalize_answers.specs.Counters.{no_counters, counters}
-use Rattle.normalize_answers.specs.Answered.{NormalAnswered}
+use Rattle.normalize_answers.specs.Counters.{counters}
+use Rattle.normalize_answers.specs.Answered.{NormalTold}
 use Rattle.normalize_answers.specs.Tied.{Tied}
-use Rattle.normalize_answers.specs.Folding.{bad_answer_in, Marks, FoldTextIs, RewriteIs}
+use Rattle.normalize_answers.specs.Folding.{Marks, FoldTextIs, RewriteIs}
 use Rattle.normalize_answers.proofs.Answering.{refuses}
 use Rattle.normalize_answers.proofs.Tying.{tied_stands}
 
@@ -69,24 +67,24 @@ module _ (es : List Entry) (cap : ℕ) {text w : List ℕ} {b : Bases} {n : Coun
 
 -- ---- some segment is folded
 
-module _ {text w : List ℕ} {b : Bases} {n : Counts} {g : Layout} {stats : NormalizeSelfLoopsStats} {out : List ℕ} {r : NormalizeSelfLoopsResult} {k : Steps} where
+module _ {text w : List ℕ} {b : Bases} {n : Counts} {g : Layout} {stats : NormalizeSelfLoopsStats} {out : List ℕ} {k : Result (Unit {0}) Refusal} where
   -- a step is bad
-  pub fold_bad : {q p : Answer} → BadStepIs text w b n k → k ≡ steps.Bad q → p ≡ bad_answer_in k → r.answer ≡ p → counters r.stats ≡ no_counters → FoldTextIs text w b n g stats out out r
+  pub fold_bad : {q : Refusal} → BadStepIs text w b n k → k ≡ Err q → FoldTextIs text w b n g stats out out (Err q)
   unfolding fold normal_fitted
-  fold_bad {q} h e a f c = record { folds = λ es cap t m s. there es cap t }
+  fold_bad {q} h e = record { folds = λ es cap t m s. there es cap t }
     where
-      there : (es : List Entry) (cap : ℕ) → Tied es text w b n → NormalAnswered out out r (normal_fitted (length out) (fold es cap (bad_step es (paths es))))
+      there : (es : List Entry) (cap : ℕ) → Tied es text w b n → NormalTold out out (Err q) (normal_fitted (length out) (fold es cap (bad_step es (paths es))))
       there es cap t =
-          let bad : bad_step es (paths es) ≡ some (stated q) = rw e at (h.first es (sym t.of_segments) (sym t.of_paths)) in
-          refuses (stated q) (normal_fitted (length out) (fold es cap (bad_step es (paths es)))) (rw bad) (f ∙ a ∙ ap bad_answer_in e) c refl
+          let bad : bad_step es (paths es) ≡ Some (stated q) = rw e at (h.first es (sym t.of_segments) (sym t.of_paths)) in
+          refuses q (normal_fitted (length out) (fold es cap (bad_step es (paths es)))) (rw bad)
 
   -- no step is bad
-  pub fold_good : {w' out' : List ℕ} {nodes : ℕ} → Source text w b n g → BadStepIs text w b n k → k ≡ steps.Known → MarkFoldedIs text w w' b n g nodes → RewriteIs text w' b n g nodes stats out out' r
+  pub fold_good : {w' out' : List ℕ} {nodes : ℕ} {u : Unit {0}} (r : Result Written Refusal) → Source text w b n g → BadStepIs text w b n k → k ≡ Ok u → MarkFoldedIs text w w' b n g nodes → RewriteIs text w' b n g nodes stats out out' r
       → FoldTextIs text w b n g stats out out' r
-  fold_good {w'} {out'} {nodes} source h e f x = record { folds = λ es cap t m s. there es cap t m s }
+  fold_good {w'} {out'} {nodes} r source h e f x = record { folds = λ es cap t m s. there es cap t m s }
     where
       there : (es : List Entry) (cap : ℕ) → Tied es text w b n → Marked (eligible es cap) text w b n g.eligible → counters stats ≡ unchanged es
-          → NormalAnswered out out' r (normal_fitted (length out) (fold es cap (bad_step es (paths es))))
+          → NormalTold out out' r (normal_fitted (length out) (fold es cap (bad_step es (paths es))))
       there es cap t m s =
           let good = rw e at (h.first es (sym t.of_segments) (sym t.of_paths)) in
           let kept = marks_behind source g.folded (g.folded + n.segs) (omega (arith, source.placed)) f.only in
@@ -96,8 +94,8 @@ module _ {text w : List ℕ} {b : Bases} {n : Counts} {g : Layout} {stats : Norm
 -- ---- what the rewriting asks
 
 -- the tables, known steps, and marks
-pub rewrite_ready : {es : List Entry} {text w w' : List ℕ} {b : Bases} {n : Counts} {g : Layout} {nodes : ℕ} {k : Steps}
-    → Source text w b n g × Tied es text w b n × Marks text w b n g.eligible → BadStepIs text w b n k → k ≡ steps.Known → MarkFoldedIs text w w' b n g nodes
+pub rewrite_ready : {es : List Entry} {text w w' : List ℕ} {b : Bases} {n : Counts} {g : Layout} {nodes : ℕ} {k : Result (Unit {0}) Refusal} {u : Unit {0}}
+    → Source text w b n g × Tied es text w b n × Marks text w b n g.eligible → BadStepIs text w b n k → k ≡ Ok u → MarkFoldedIs text w w' b n g nodes
     → Source text w' b n g × AllKnown text w' b n × Marks text w' b n g.folded
 rewrite_ready {es} {text} {w} {w'} {b} {n} {g} (s, t, q) h e f =
     let front = marks_behind s g.folded (g.folded + n.segs) (omega (arith, s.placed)) f.only in

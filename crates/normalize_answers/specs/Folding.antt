@@ -1,5 +1,5 @@
 -- What the passes of a folding answer, for any entries that the tables are tied to. Document 01, "Folding".
-use Rattle.std.specs.Prelude.{ℕ, ◌≤◌, Bool, List, ◌≡◌, length}
+use Rattle.std.specs.Prelude.{ℕ, ◌≤◌, Bool, List, ◌≡◌, length, Result}
 use Rattle.gfa_spec.specs.Reading.{Entry, Segment}
 use Rattle.gfa_spec.specs.Records.{paths}
 use Rattle.gfa_spec.specs.Services.{bad_step}
@@ -7,9 +7,7 @@ use Rattle.normalize_spec.specs.Folding.{eligible, is_folded, folded}
 use Rattle.normalize_spec.specs.Writing.{rewritten}
 use Rattle.normalize_spec.specs.Counting.{unchanged, rewritten_stats}
 use Rattle.normalize_spec.specs.Services.{normal, fold, normal_fitted}
-use Rattle.reader.specs.declared.answers.Answer.{Answer}
-use Rattle.spelling.specs.declared.spelling.Steps.{Steps}
-use Rattle.spelling.specs.declared.spelling.Steps.TheVariants as steps
+use Rattle.refusals.specs.declared.refusal.Refusal.{Refusal}
 use Rattle.tables.specs.declared.tables.Bases.{Bases}
 use Rattle.tables.specs.declared.tables.Counts.{Counts}
 use Rattle.normalize_tables.specs.declared.layout.Layout.{Layout}
@@ -20,17 +18,12 @@ use Rattle.normalize_tables.specs.News.{KeyRow}
 use Rattle.normalize_tables.specs.Rewritten.{NewRows, Relinked}
 use Rattle.work.specs.Rows.{EachRow}
 use Rattle.rewrite.specs.Rewriting.{rewritten_from}
-use Rattle.normalize_answers.specs.declared.returning.NormalizeSelfLoopsResult.{NormalizeSelfLoopsResult}
+use Rattle.normalize_answers.specs.declared.written.Written.{Written}
 use Rattle.normalize_answers.specs.declared.rewriting.Passed.{Passed}
 use Rattle.normalize_answers.specs.declared.stats.NormalizeSelfLoopsStats.{NormalizeSelfLoopsStats}
 use Rattle.normalize_answers.specs.Counters.{counters, rewritten_counters}
-use Rattle.normalize_answers.specs.Answered.{NormalAnswered}
+use Rattle.normalize_answers.specs.Answered.{NormalTold}
 use Rattle.normalize_answers.specs.Tied.{Tied}
-
--- the refusal that an answer on all steps states, all 0 where there is none
-abbrev pub bad_answer_in : Steps → Answer
-bad_answer_in steps.Known = record { number = 0; line = 0; from = 0; length = 0 }
-bad_answer_in (steps.Bad r) = r
 
 -- The words from `base` on are marks: 1 for the segments that pass some test, and 0 for the others.
 pub record Marks (text work : List ℕ) (b : Bases) (n : Counts) (base : ℕ) : Type 0 where
@@ -38,14 +31,14 @@ pub record Marks (text work : List ℕ) (b : Bases) (n : Counts) (base : ℕ) : 
   pub marked : Marked test text work b n base
 
 -- What is answered where some segment is folded: 18 or 19, or the rewritten text.
-pub record FoldTextIs (text work : List ℕ) (b : Bases) (n : Counts) (g : Layout) (stats : NormalizeSelfLoopsStats) (out out' : List ℕ) (r : NormalizeSelfLoopsResult) : Type 0 where
+pub record FoldTextIs (text work : List ℕ) (b : Bases) (n : Counts) (g : Layout) (stats : NormalizeSelfLoopsStats) (out out' : List ℕ) (r : Result Written Refusal) : Type 0 where
   pub folds : (es : List Entry) (cap : ℕ) → Tied es text work b n → Marked (eligible es cap) text work b n g.eligible → counters stats ≡ unchanged es
-      → NormalAnswered out out' r (normal_fitted (length out) (fold es cap (bad_step es (paths es))))
+      → NormalTold out out' r (normal_fitted (length out) (fold es cap (bad_step es (paths es))))
 
 -- What is answered once no step is bad and the folded segments are marked and counted: the rewritten text.
-pub record RewriteIs (text work : List ℕ) (b : Bases) (n : Counts) (g : Layout) (nodes : ℕ) (stats : NormalizeSelfLoopsStats) (out out' : List ℕ) (r : NormalizeSelfLoopsResult) : Type 0 where
+pub record RewriteIs (text work : List ℕ) (b : Bases) (n : Counts) (g : Layout) (nodes : ℕ) (stats : NormalizeSelfLoopsStats) (out out' : List ℕ) (r : Result Written Refusal) : Type 0 where
   pub rewrites : (es : List Entry) (cap : ℕ) → Tied es text work b n → Marked (is_folded es cap) text work b n g.folded → nodes ≡ length (folded es cap) → counters stats ≡ unchanged es
-      → NormalAnswered out out' r (normal_fitted (length out) (normal (rewritten es cap) (rewritten_stats es cap)))
+      → NormalTold out out' r (normal_fitted (length out) (normal (rewritten es cap) (rewritten_stats es cap)))
 
 -- What is asked before the rewritten text is written.
 pub record Writable (text work : List ℕ) (b : Bases) (n : Counts) (g : Layout) (m : Made) (extra : ℕ) : Type 0 where
@@ -67,5 +60,5 @@ pub record PassedIs (text work work' : List ℕ) (b : Bases) (n : Counts) (g : L
   pub passes : (es : List Entry) (cap : ℕ) → Tied es text work b n → Marked (is_folded es cap) text work b n g.folded → Passes es cap text work' b n g p
 
 -- What is answered once the links are settled: the rewritten text of the tables, with these statistics.
-pub record WriteIs (text work : List ℕ) (b : Bases) (n : Counts) (g : Layout) (m : Made) (extra : ℕ) (stats : NormalizeSelfLoopsStats) (out out' : List ℕ) (r : NormalizeSelfLoopsResult) : Type 0 where
-  pub writes : (fs : List Segment) → Relinked text work b n g fs m extra → NormalAnswered out out' r (normal_fitted (length out) (normal (rewritten_from text work b n g fs m extra) (counters stats)))
+pub record WriteIs (text work : List ℕ) (b : Bases) (n : Counts) (g : Layout) (m : Made) (extra : ℕ) (stats : NormalizeSelfLoopsStats) (out out' : List ℕ) (r : Result Written Refusal) : Type 0 where
+  pub writes : (fs : List Segment) → Relinked text work b n g fs m extra → NormalTold out out' r (normal_fitted (length out) (normal (rewritten_from text work b n g fs m extra) (counters stats)))

@@ -5,3 +5,4 @@ pub mod folding;
 pub mod returning;
 pub mod rewriting;
 pub mod stats;
+pub mod written;

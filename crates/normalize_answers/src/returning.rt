@@ -1,12 +1,14 @@
-// Rule 3: where no segment is folded the text returns byte for byte.
-ghost use Rattle.std.specs.Prelude.{◌≡◌, length};
+// Rule 3: where no segment is folded the text returns byte for byte. And what a call returns.
+ghost use Rattle.std.specs.Prelude.{length};
 ghost use Rattle.normalize_spec.specs.Services.{normal, normal_fitted};
-ghost use Rattle.normalize_answers.specs.Counters.{no_counters, counters};
-ghost use Rattle.normalize_answers.specs.Answered.{NormalAnswered};
+ghost use Rattle.normalize_answers.specs.Counters.{counters};
+ghost use Rattle.normalize_answers.specs.Answered.{NormalTold};
 
 use crate::stats::{NormalizeSelfLoopsStats, no_stats};
-use reader::answers::{Answer, plain};
-use writers::bytes::put_constant;
+use crate::written::Written;
+use reader::answers::Answer;
+use refusals::reason::Reason;
+use refusals::refusal::Refusal;
 
 // What a normalization returns: its answer, and its statistics, which are all 0 on a refusal.
 #[repr(C)]
@@ -16,13 +18,22 @@ pub struct NormalizeSelfLoopsResult {
     pub stats: NormalizeSelfLoopsStats,
 }
 
-// A refusal.
-pub fn refused(answer: Answer) -> NormalizeSelfLoopsResult
-    ensures { (result.answer ≡ answer) × (counters result.stats ≡ no_counters) }
-{
-    NormalizeSelfLoopsResult {
-        answer,
-        stats: no_stats(),
+impl From<Result<Written, Refusal>> for NormalizeSelfLoopsResult {
+    ghost use Rattle.normalize_answers.specs.Answered.{ReturnedIs};
+
+    ghost from_gives = { λ o r. ReturnedIs o r };
+
+    fn from(outcome: Result<Written, Refusal>) -> NormalizeSelfLoopsResult {
+        match outcome {
+            Ok(written) => NormalizeSelfLoopsResult {
+                answer: Answer::from(Ok(written.length)),
+                stats: written.stats,
+            },
+            Err(r) => NormalizeSelfLoopsResult {
+                answer: Answer::from(Err(r)),
+                stats: no_stats(),
+            },
+        }
     }
 }
 
@@ -31,16 +42,15 @@ pub fn return_text(
     text: &[u8],
     out: &mut [u8],
     stats: NormalizeSelfLoopsStats,
-) -> NormalizeSelfLoopsResult
-    ensures { NormalAnswered out.old out.new result (normal_fitted (length out.old) (normal text.now (counters stats))) }
+) -> Result<Written, Refusal>
+    ensures { NormalTold out.old out.new result (normal_fitted (length out.old) (normal text.now (counters stats))) }
 {
-    let size = text.len();
-    if out.len() < size {
-        return refused(plain(22, 0));
+    if out.len() < text.len() {
+        return Err(Refusal::of(Reason::ShortOutput));
     }
-    put_constant(out, 0, size, text);
-    NormalizeSelfLoopsResult {
-        answer: plain(0, size),
+    out[..text.len()].copy_from_slice(text);
+    Ok(Written {
+        length: text.len(),
         stats,
-    }
+    })
 }

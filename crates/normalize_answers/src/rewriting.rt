@@ -5,16 +5,18 @@ ghost use Rattle.fold.specs.Transforms.{AllKnown};
 ghost use Rattle.normalize_answers.specs.Counters.{counters, rewritten_counters};
 ghost use Rattle.normalize_answers.specs.Folding.{Marks, PassedIs, RewriteIs, Writable, WriteIs};
 
-use crate::returning::{NormalizeSelfLoopsResult, refused};
 use crate::stats::NormalizeSelfLoopsStats;
+use crate::written::Written;
 use fold::pairs::new_pairs;
 use fold::paths::transform;
 use normalize_tables::layout::{Area, Layout, Made};
-use reader::answers::plain;
+use refusals::reason::Reason;
+use refusals::refusal::Refusal;
 use relink::settle::{Links, settle_links};
 use rewrite::rewritten::put_rewritten;
 use runs::counts::Pairs;
 use tables::tables::{Bases, Counts};
+use writers::writer::Writer;
 
 // What rules 4 to 6 made and counted: new segments and steps, links, and pairs of the new paths.
 #[derive(Clone, Copy)]
@@ -60,22 +62,23 @@ pub fn write_text(
     extra: usize,
     stats: NormalizeSelfLoopsStats,
     out: &mut [u8],
-) -> NormalizeSelfLoopsResult
+) -> Result<Written, Refusal>
     requires { Writable text.now work.now a.b a.n a.g a.m extra }
     ensures { WriteIs text.now work.now a.b a.n a.g a.m extra stats out.old out.new result }
 {
     let room = out.len();
-    let limit = room + 1;
     let mut nothing = [0u8; 0];
-    let need = put_rewritten(&mut nothing, limit, text, work, a, extra);
+    let mut w = Writer::new(&mut nothing, room + 1);
+    put_rewritten(&mut w, text, work, a, extra);
+    let need = w.at;
     if room < need {
-        return refused(plain(22, 0));
+        return Err(Refusal::of(Reason::ShortOutput));
     }
-    put_rewritten(out, limit, text, work, a, extra);
-    NormalizeSelfLoopsResult {
-        answer: plain(0, need),
+    put_rewritten(&mut Writer::new(out, room + 1), text, work, a, extra);
+    Ok(Written {
+        length: need,
         stats,
-    }
+    })
 }
 
 // Rules 4 to 6 on the text whose folded segments are marked: its paths transformed, the new pairs counted, its links settled.
@@ -99,14 +102,12 @@ pub fn rewrite_text(
     nodes: usize,
     stats: NormalizeSelfLoopsStats,
     out: &mut [u8],
-) -> NormalizeSelfLoopsResult
+) -> Result<Written, Refusal>
     requires { Source text.now work.old b n g × AllKnown text.now work.old b n × Marks text.now work.old b n g.folded }
     ensures { RewriteIs text.now work.old b n g nodes stats out.old out.new result }
 {
     let p = pass_text(text, work, b, n, g);
-    let m = p.m;
-    let l = p.l;
-    let pairs = p.pairs;
-    let counted = rewritten_stats(stats, nodes, m, l, pairs);
-    write_text(text, work, Area { b, n, g, m }, l.added, counted, out)
+    let counted = rewritten_stats(stats, nodes, p.m, p.l, p.pairs);
+    let a = Area { b, n, g, m: p.m };
+    write_text(text, work, a, p.l.added, counted, out)
 }

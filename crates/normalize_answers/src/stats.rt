@@ -1,10 +1,9 @@
 // The statistics of a normalization (document 01, "Folding", the fourteen counters).
 ghost use Rattle.std.specs.Prelude.{◌≡◌};
-ghost use Rattle.tables.specs.Tables.{Readable};
 ghost use Rattle.normalize_answers.specs.Counters.{no_counters, counters, input_counters, InputStats};
 
 use runs::counts::{Pairs, all_pairs, self_links};
-use tables::tables::{Bases, Counts};
+use tables::graph::Graph;
 
 // The counters, named and ordered as in the Rust.
 #[repr(C)]
@@ -56,11 +55,8 @@ pub fn no_stats() -> NormalizeSelfLoopsStats
 }
 
 // The counters of the tables' text, were it returned as it is.
-pub fn input_stats(text: &[u8], work: &[u32], b: Bases, n: Counts) -> NormalizeSelfLoopsStats
-    requires { Readable text.now work.now b n }
-    ensures { InputStats text.now work.now b n result }
+pub fn input_stats(graph: &Graph) -> NormalizeSelfLoopsStats
+    ensures { InputStats graph.now.text.now graph.now.work.now graph.now.b graph.now.n result }
 {
-    let links = self_links(text, work, b, n);
-    let pairs = all_pairs(text, work, b, n);
-    returned_stats(links, pairs, n.steps)
+    returned_stats(self_links(graph), all_pairs(graph), graph.n.steps)
 }

@@ -3,7 +3,7 @@ use Prim.Native.Nat.{ℕ, ◌+◌}
 use native.Mathlib.Omega.{arith}
 use mathlib.Core.Bool.{true, false≢true}
 use mathlib.Core.List.{List, [], ◌∷◌, ◌++◌, map, map-map}
-use mathlib.Core.Option.{none}
+use Rattle.std.specs.Prelude.{None}
 use mathlib.Core.Path.{◌≡◌, refl, sym, ap, ◌∙◌}
 use lib.ListN.{length, length-map}
 use Rattle.gfa_spec.specs.Bytes.{is_empty, any, sum, nth, Each}
@@ -36,7 +36,7 @@ use Rattle.normalize_spec.proofs.Whole.{new_path, as_many, path_lost, path_fall,
 -- ---- where no step is bad
 
 -- the steps of path k are known
-known_paths : (es : List Entry) (k : ℕ) → bad_step es (paths es) ≡ none → Each (λ s. Known (segments es) s.name.bytes) (steps_of es k)
+known_paths : (es : List Entry) (k : ℕ) → bad_step es (paths es) ≡ None → Each (λ s. Known (segments es) s.name.bytes) (steps_of es k)
 unfolding steps_of
 known_paths es k h =
     let known : List Step → Type 0 = λ steps. Each (λ s. Known (segments es) s.name.bytes) steps in
@@ -63,13 +63,13 @@ paths_alike ss fs made sound (p ∷ ps) has known =
     rw (alike ss after p.steps read known.0 e) (paths_alike ss fs made sound ps has.1 known.1)
 
 -- where no step is bad, every new path spells what its path spells
-pub spelling_unchanged : (es : List Entry) (cap : ℕ) → bad_step es (paths es) ≡ none → unchanged_spelling es cap ≡ true
+pub spelling_unchanged : (es : List Entry) (cap : ℕ) → bad_step es (paths es) ≡ None → unchanged_spelling es cap ≡ true
 unfolding unchanged_spelling
 spelling_unchanged es cap good =
     rw (transform_images es cap) (paths_alike (segments es) (folded es cap) (transform es cap).made (transform_sound es cap) (paths es) (transform_has es cap) (none_bad es (paths es) good))
 
 -- a normalization with no bad step is accepted, up to the room for it
-pub fold_accepts : (es : List Entry) (cap : ℕ) → bad_step es (paths es) ≡ none
+pub fold_accepts : (es : List Entry) (cap : ℕ) → bad_step es (paths es) ≡ None
     → fold es cap (bad_step es (paths es)) ≡ normal (rewritten es cap) (rewritten_stats es cap)
 unfolding fold
 fold_accepts es cap good = rw (good, spelling_unchanged es cap good)
@@ -85,7 +85,7 @@ reread_steps es cap after e k =
     ∙ ap (λ (l : List (List NewStep)). nth k l []) (map-map (map as_new) (λ p. p.steps) (paths after) ∙ e)
 
 -- the third demand, where some segment is folded and no step is bad
-pub kept_folded : (es : List Entry) (cap : ℕ) (output : List ℕ) (after : List Entry) → Reread es cap output after → bad_step es (paths es) ≡ none
+pub kept_folded : (es : List Entry) (cap : ℕ) (output : List ℕ) (after : List Entry) → Reread es cap output after → bad_step es (paths es) ≡ None
     → Kept es cap output after
 kept_folded es cap output after r good = record {
   clean = r.clean;
@@ -125,7 +125,7 @@ none_loss [] steps h = unfold loss_of in none_lost (runs steps)
 none_loss (f ∷ fs) steps h = absurd (false≢true h)
 
 -- the third demand, where none is folded and the text is returned
-pub kept_unchanged : (es : List Entry) (cap : ℕ) (text : List ℕ) → is_empty (folded es cap) ≡ true → bad_byte 0 text ≡ none → parse text ≡ parsed es
+pub kept_unchanged : (es : List Entry) (cap : ℕ) (text : List ℕ) → is_empty (folded es cap) ≡ true → bad_byte 0 text ≡ None → parse text ≡ parsed es
     → Kept es cap text es
 kept_unchanged es cap text empty clean reads = record {
   clean = clean;

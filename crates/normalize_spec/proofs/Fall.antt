@@ -3,7 +3,7 @@ use Prim.Native.Nat.{ℕ, zero, suc, ◌+◌, ◌-◌, ◌≤◌}
 use native.Mathlib.Omega.{arith}
 use mathlib.Core.Bool.{true, false}
 use mathlib.Core.List.{List, [], ◌∷◌, ◌++◌, map}
-use mathlib.Core.Option.{Option, some}
+use Rattle.std.specs.Prelude.{Option, Some}
 use mathlib.Core.Path.{◌≡◌, refl, sym, ap, ◌∙◌}
 use lib.Dec.{eqb}
 use borrow.Author.Tests.{eqb-true, eq-eqb}
@@ -57,7 +57,7 @@ module _ (ss fs : List Segment) (made : Made) (sound : SoundTable ss made) where
       let orientation = new_orientation (image fs made.new r) (image fs made.new t) q in
       by_test (is_folded_run fs r)
       (λ f. by_test (is_folded_run fs t)
-      (λ g. clash (equal_steps r.step t.step (new_unit ss made sound r.step.name.bytes t.step.name.bytes r.count t.count (id_for made.new r) (hr f) (ht g ∙ ap {B = Option (List ℕ)} some (sym (rw (f, g) at name)))) (rw (f, g) at orientation)) d)
+      (λ g. clash (equal_steps r.step t.step (new_unit ss made sound r.step.name.bytes t.step.name.bytes r.count t.count (id_for made.new r) (hr f) (ht g ∙ ap {B = Option (List ℕ)} Some (sym (rw (f, g) at name)))) (rw (f, g) at orientation)) d)
       (λ g. outside r t.step f hr nt (rw (f, g) at name)))
       (λ f. by_test (is_folded_run fs t)
       (λ g. outside t r.step g ht nr (sym (rw (f, g) at name)))

@@ -4,7 +4,8 @@ use native.Mathlib.Nat.{add-zero, add-suc, suc-add}
 use native.Mathlib.Omega.{arith}
 use mathlib.Core.Bool.{Bool, true, false, not, ◌&&◌, ◌||◌, false≢true}
 use mathlib.Core.List.{List, [], ◌∷◌, ◌++◌, map, append_cancel_left, tail-eq_of_cons-eq}
-use mathlib.Core.Option.{Option, none, some, some-injective}
+use Rattle.std.specs.Prelude.{Option, None, Some}
+use Rattle.gfa_spec.proofs.Options.{Some-injective}
 use mathlib.Core.Path.{◌≡◌, refl, sym, ◌∙◌}
 use lib.Dec.{leb, ltb}
 use lib.ListN.{length}
@@ -94,18 +95,18 @@ free_name_free taken base =
 
 -- does the string read as a number below n?
 unfoldable pub below : ℕ → List ℕ → Bool
-below n x = elim (number_of x) as (λ _. Bool) [ none ↦ false | some m ↦ ltb m n ]
+below n x = elim (number_of x) as (λ _. Bool) [ None ↦ false | Some m ↦ ltb m n ]
 
 -- a number m is below n where the test says so
-pub below_number : (n m : ℕ) (x : List ℕ) → number_of x ≡ some m → below n x ≡ ltb m n
+pub below_number : (n m : ℕ) (x : List ℕ) → number_of x ≡ Some m → below n x ≡ ltb m n
 unfolding below
 below_number n m x e = rw (e, below)
 
 -- what is below n is below the number after n
 pub below_more : (n : ℕ) (x : List ℕ) (o : Option ℕ) → number_of x ≡ o → below n x ≡ true → below (suc n) x ≡ true
 unfolding below
-below_more n x none e h = absurd (false≢true (rw (e, below) at h))
-below_more n x (some m) e h = rw (e, below) (lt-ltb m (suc n) (omega (arith, ltb-true m n (rw (e, below) at h))))
+below_more n x None e h = absurd (false≢true (rw (e, below) at h))
+below_more n x (Some m) e h = rw (e, below) (lt-ltb m (suc n) (omega (arith, ltb-true m n (rw (e, below) at h))))
 
 -- a decimal above every number that is taken is not taken
 decimal_free : (n : ℕ) (taken : List (List ℕ)) → n < largest64 → all (below n) taken ≡ true → any (same (decimal n)) taken ≡ false
@@ -114,40 +115,40 @@ decimal_free n taken l h =
     (λ i. omega (arith, ltb-true n n (sym (below_number n n (decimal n) (number_decimal n (omega arith))) ∙ all_in (below n) (decimal n) taken h i)))
 
 -- a new ID is not taken, where every ID that is taken reads as a number below the next
-pub new_id_free : (taken : List (List ℕ)) (name : List ℕ) (count : ℕ) (next : Option ℕ) → ((n : ℕ) → next ≡ some n → all (below n) taken ≡ true)
+pub new_id_free : (taken : List (List ℕ)) (name : List ℕ) (count : ℕ) (next : Option ℕ) → ((n : ℕ) → next ≡ Some n → all (below n) taken ≡ true)
     → any (same (new_id taken name count (usable next))) taken ≡ false
 unfolding new_id usable
-new_id_free taken name count none h = free_name_free taken (base_name name count)
-new_id_free taken name count (some n) h =
+new_id_free taken name count None h = free_name_free taken (base_name name count)
+new_id_free taken name count (Some n) h =
     by_test (ltb n largest64)
     (λ e. rw e (decimal_free n taken (ltb-true n largest64 e) (h n refl)))
     (λ e. rw e (free_name_free taken (base_name name count)))
 
 -- the next number, where there is one, is one more than the number used
-pub next_usable : (o : Option ℕ) (m : ℕ) → next_after (usable o) ≡ some m → (n : ℕ) × (o ≡ some n) × (n < largest64) × (m ≡ suc n)
+pub next_usable : (o : Option ℕ) (m : ℕ) → next_after (usable o) ≡ Some m → (n : ℕ) × (o ≡ Some n) × (n < largest64) × (m ≡ suc n)
 unfolding next_after usable
-next_usable none m e = let z : ◌≡◌ {A = ℕ} 0 1 = cc in absurd (omega arith)
-next_usable (some n) m e =
+next_usable None m e = let z : ◌≡◌ {A = ℕ} 0 1 = cc in absurd (omega arith)
+next_usable (Some n) m e =
     by_test (ltb n largest64)
-    (λ h. (n, refl, ltb-true n largest64 h, some-injective m (suc n) (sym (rw h at e))))
+    (λ h. (n, refl, ltb-true n largest64 h, Some-injective m (suc n) (sym (rw h at e))))
     (λ h. let z : ◌≡◌ {A = ℕ} 0 1 = cc (rw h at e) in absurd (omega arith))
 
 -- a number that may be used is the new ID
-pub new_id_number : (taken : List (List ℕ)) (name : List ℕ) (count : ℕ) (o : Option ℕ) (n : ℕ) → o ≡ some n → n < largest64
+pub new_id_number : (taken : List (List ℕ)) (name : List ℕ) (count : ℕ) (o : Option ℕ) (n : ℕ) → o ≡ Some n → n < largest64
     → new_id taken name count (usable o) ≡ decimal n
 unfolding new_id usable
 new_id_number taken name count o n e l = rw (e, lt-ltb n largest64 l)
 
 -- the largest ID is at least n, and every ID reads as a number of at most that
-pub largest_bound : (n m : ℕ) (ss : List Segment) → largest_id n ss ≡ some m → (n ≤ m) × (all (below (suc m)) (map (λ s. s.id) ss) ≡ true)
+pub largest_bound : (n m : ℕ) (ss : List Segment) → largest_id n ss ≡ Some m → (n ≤ m) × (all (below (suc m)) (map (λ s. s.id) ss) ≡ true)
 unfolding largest_id all
-largest_bound n m [] h = (omega (arith, some-injective n m h), refl)
+largest_bound n m [] h = (omega (arith, Some-injective n m h), refl)
 largest_bound n m (s ∷ ss) h = go (λ k. largest_bound k m ss) (number_of s.id) refl
   where
-    go : ((k : ℕ) → largest_id k ss ≡ some m → (k ≤ m) × (all (below (suc m)) (map (λ s. s.id) ss) ≡ true)) → (o : Option ℕ) → number_of s.id ≡ o
+    go : ((k : ℕ) → largest_id k ss ≡ Some m → (k ≤ m) × (all (below (suc m)) (map (λ s. s.id) ss) ≡ true)) → (o : Option ℕ) → number_of s.id ≡ o
         → (n ≤ m) × ((below (suc m) s.id && all (below (suc m)) (map (λ s. s.id) ss)) ≡ true)
-    go more none e = let z : ◌≡◌ {A = ℕ} 0 1 = cc (rw (e, largest_id) at h) in absurd (omega arith)
-    go more (some k) e =
+    go more None e = let z : ◌≡◌ {A = ℕ} 0 1 = cc (rw (e, largest_id) at h) in absurd (omega arith)
+    go more (Some k) e =
         let (l, a) = more (max n k) (rw (e, largest_id) at h) in
         (omega arith, and_both (below (suc m) s.id) (all (below (suc m)) (map (λ s. s.id) ss)) (below_number (suc m) k s.id e ∙ lt-ltb k (suc m) (omega arith)) a)
 
@@ -226,5 +227,5 @@ free_name_name taken base h = by_test (any (same base) taken) (λ e. rw e (suffi
 -- a new ID is made of A-Z a-z 0-9 _ . : #, and is not empty
 pub new_id_name : (taken : List (List ℕ)) (name : List ℕ) (count : ℕ) (next : Option ℕ) → is_plain_name (new_id taken name count next) ≡ true
 unfolding new_id
-new_id_name taken name count none = free_name_name taken (base_name name count) (base_name_plain name count)
-new_id_name taken name count (some n) = decimal_name n
+new_id_name taken name count None = free_name_name taken (base_name name count) (base_name_plain name count)
+new_id_name taken name count (Some n) = decimal_name n

@@ -3,7 +3,7 @@ use Prim.Native.Nat.{ℕ}
 use native.Mathlib.Omega.{arith}
 use mathlib.Core.Bool.{true, cond, ◌&&◌}
 use mathlib.Core.List.{List, [], ◌∷◌, ◌++◌, map}
-use mathlib.Core.Option.{Option, none, some}
+use Rattle.std.specs.Prelude.{Option, None, Some}
 use mathlib.Core.Path.{◌≡◌, refl, sym, ap, ◌∙◌}
 use lib.Dec.{eqb}
 use borrow.Author.Tests.{eq-eqb}
@@ -19,7 +19,7 @@ use Rattle.normalize_spec.specs.Folding.{folded, is_folded_run, New, Made, made_
 -- ---- the table of new segments
 
 -- an ID that was made is found among more segments
-pub made_append : (unit : List ℕ) (count : ℕ) (new more : List New) (id : List ℕ) → made_for unit count new ≡ some id → made_for unit count (new ++ more) ≡ some id
+pub made_append : (unit : List ℕ) (count : ℕ) (new more : List New) (id : List ℕ) → made_for unit count new ≡ Some id → made_for unit count (new ++ more) ≡ Some id
 unfolding made_for
 made_append unit count [] more id h = let z : ◌≡◌ {A = ℕ} 0 1 = cc in absurd (omega arith)
 made_append unit count (n ∷ new) more id h =
@@ -28,7 +28,7 @@ made_append unit count (n ∷ new) more id h =
     (λ e. rw e (made_append unit count new more id (rw e at h)))
 
 -- an ID that is made is found
-made_last : (new : List New) (n : New) → made_for n.unit n.count new ≡ none → made_for n.unit n.count (new ++ (n ∷ [])) ≡ some n.id
+made_last : (new : List New) (n : New) → made_for n.unit n.count new ≡ None → made_for n.unit n.count (new ++ (n ∷ [])) ≡ Some n.id
 unfolding made_for
 made_last [] n h = rw (same_refl, eq-eqb n.count n.count refl)
 made_last (m ∷ new) n h =
@@ -38,20 +38,20 @@ made_last (m ∷ new) n h =
 
 -- what is found in the first table is found in the second
 abbrev pub Extends : List New → List New → Type 0
-Extends new more = (unit : List ℕ) (count : ℕ) (id : List ℕ) → made_for unit count new ≡ some id → made_for unit count more ≡ some id
+Extends new more = (unit : List ℕ) (count : ℕ) (id : List ℕ) → made_for unit count new ≡ Some id → made_for unit count more ≡ Some id
 
 -- A folded run: its ID, which the table then has.
 record Found (ss : List Segment) (r : Run) (made : Made) : Type 0 where
   id : List ℕ
-  found : made_for r.step.name.bytes r.count (fold_run ss r made).made.new ≡ some id
+  found : made_for r.step.name.bytes r.count (fold_run ss r made).made.new ≡ Some id
   steps : (fold_run ss r made).steps ≡ record { name = id; orientation = r.step.orientation } ∷ []
   grown : Extends made.new (fold_run ss r made).made.new
 
 -- folding a run finds its ID or makes it
 fold_cases : (ss : List Segment) (r : Run) (made : Made) (o : Option (List ℕ)) → made_for r.step.name.bytes r.count made.new ≡ o → Found ss r made
 unfolding fold_run onto make_segment new_segment
-fold_cases ss r made (some x) e = record { id = x; found = rw (e, fold_run) e; steps = rw (e, fold_run); grown = λ u c i h. rw (e, fold_run) h }
-fold_cases ss r made none e =
+fold_cases ss r made (Some x) e = record { id = x; found = rw (e, fold_run) e; steps = rw (e, fold_run); grown = λ u c i h. rw (e, fold_run) h }
+fold_cases ss r made None e =
     let n = new_segment ss r made in
     record {
       id = n.id;
@@ -70,7 +70,7 @@ weight fs r = cond (is_folded_run fs r) 1 r.count
 
 -- the ID made for a run; empty where there is none
 unfoldable pub id_for : List New → Run → List ℕ
-id_for new r = elim (made_for r.step.name.bytes r.count new) as (λ _. List ℕ) [ none ↦ [] | some id ↦ id ]
+id_for new r = elim (made_for r.step.name.bytes r.count new) as (λ _. List ℕ) [ None ↦ [] | Some id ↦ id ]
 
 -- the step that a run becomes
 unfoldable pub image : List Segment → List New → Run → NewStep
@@ -81,7 +81,7 @@ unfoldable pub images : List Segment → List New → List Run → List NewStep
 images fs new rs = join (map (λ r. copies (weight fs r) (image fs new r)) rs)
 
 -- the ID that is found is the run's
-found_id : (new : List New) (r : Run) (id : List ℕ) → made_for r.step.name.bytes r.count new ≡ some id → id_for new r ≡ id
+found_id : (new : List New) (r : Run) (id : List ℕ) → made_for r.step.name.bytes r.count new ≡ Some id → id_for new r ≡ id
 unfolding id_for
 found_id new r id e = rw (e, id_for)
 
@@ -129,7 +129,7 @@ runs_images ss fs (r ∷ rs) made new w =
 
 -- where a run is folded, its ID is made
 abbrev pub HasId : List Segment → List New → Run → Type 0
-HasId fs new r = is_folded_run fs r ≡ true → made_for r.step.name.bytes r.count new ≡ some (id_for new r)
+HasId fs new r = is_folded_run fs r ≡ true → made_for r.step.name.bytes r.count new ≡ Some (id_for new r)
 
 -- a run that is folded has its ID made
 turn_has : (ss fs : List Segment) (r : Run) (made : Made) (new : List New) → Extends (turn ss fs r made).made.new new → HasId fs new r
@@ -137,7 +137,7 @@ unfolding turn
 turn_has ss fs r made new w e =
     let f = found_fold ss r made in
     let h = rw e at w r.step.name.bytes r.count f.id f.found in
-    h ∙ ap (λ (i : List ℕ). some i) (sym (found_id new r f.id h))
+    h ∙ ap (λ (i : List ℕ). Some i) (sym (found_id new r f.id h))
 
 -- the IDs of a path's folded runs are made
 pub runs_have : (ss fs : List Segment) (rs : List Run) (made : Made) (new : List New) → Extends (transform_runs ss fs rs made).made.new new

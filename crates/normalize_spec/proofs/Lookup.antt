@@ -3,7 +3,8 @@ use Prim.Native.Nat.{ℕ}
 use native.Mathlib.Omega.{arith}
 use mathlib.Core.Bool.{Bool, true, false, cond, not, ◌&&◌}
 use mathlib.Core.List.{List, [], ◌∷◌, ◌++◌, map}
-use mathlib.Core.Option.{Option, none, some, some-injective}
+use Rattle.std.specs.Prelude.{Option, None, Some}
+use Rattle.gfa_spec.proofs.Options.{Some-injective}
 use mathlib.Core.Path.{◌≡◌, refl, sym, ap, ◌∙◌}
 use lib.Dec.{eqb}
 use borrow.Author.Tests.{eqb-true, not-true}
@@ -19,25 +20,25 @@ use Rattle.normalize_spec.proofs.Segments.{ids, new_ids, is_repeated, SoundTable
 
 -- the first new segment with the ID
 unfoldable pub new_for : List ℕ → List New → Option New
-new_for id [] = none
-new_for id (n ∷ new) = cond (same n.id id) (some n) (new_for id new)
+new_for id [] = None
+new_for id (n ∷ new) = cond (same n.id id) (Some n) (new_for id new)
 
 -- an ID that was made is one of the new IDs
-made_in : (unit : List ℕ) (count : ℕ) (new : List New) (id : List ℕ) → made_for unit count new ≡ some id → any (same id) (new_ids new) ≡ true
+made_in : (unit : List ℕ) (count : ℕ) (new : List New) (id : List ℕ) → made_for unit count new ≡ Some id → any (same id) (new_ids new) ≡ true
 unfolding made_for new_ids any
 made_in unit count [] id h = let z : ◌≡◌ {A = ℕ} 0 1 = cc in absurd (omega arith)
 made_in unit count (n ∷ new) id h =
     by_test (same n.unit unit && eqb n.count count)
-    (λ e. rw (some-injective n.id id (rw e at h), same_refl id))
+    (λ e. rw (Some-injective n.id id (rw e at h), same_refl id))
     (λ e. by_test (same id n.id) (λ f. rw f) (λ f. rw f (made_in unit count new id (rw e at h))))
 
 -- an ID that was made has what each new ID has
-pub made_each : (P : List ℕ → Type 0) (unit : List ℕ) (count : ℕ) (new : List New) (id : List ℕ) → made_for unit count new ≡ some id → Each P (new_ids new) → P id
+pub made_each : (P : List ℕ → Type 0) (unit : List ℕ) (count : ℕ) (new : List New) (id : List ℕ) → made_for unit count new ≡ Some id → Each P (new_ids new) → P id
 unfolding made_for new_ids
 made_each P unit count [] id h p = let z : ◌≡◌ {A = ℕ} 0 1 = cc in absurd (omega arith)
 made_each P unit count (n ∷ new) id h p =
     by_test (same n.unit unit && eqb n.count count)
-    (λ e. rw (← (some-injective n.id id (rw e at h))) p.0)
+    (λ e. rw (← (Some-injective n.id id (rw e at h))) p.0)
     (λ e. made_each P unit count new id (rw e at h) p.1)
 
 -- The new segment made for a unit and a count: it is what its ID finds.
@@ -45,10 +46,10 @@ pub record Row (new : List New) (unit : List ℕ) (count : ℕ) (id : List ℕ) 
   pub row : New
   pub of_unit : row.unit ≡ unit
   pub of_count : row.count ≡ count
-  pub found : new_for id new ≡ some row
+  pub found : new_for id new ≡ Some row
 
 -- each ID that was made has its row
-row_of : (unit : List ℕ) (count : ℕ) (new : List New) (id : List ℕ) → distinct (new_ids new) ≡ true → made_for unit count new ≡ some id → Row new unit count id
+row_of : (unit : List ℕ) (count : ℕ) (new : List New) (id : List ℕ) → distinct (new_ids new) ≡ true → made_for unit count new ≡ Some id → Row new unit count id
 unfolding made_for new_ids distinct new_for
 row_of unit count [] id d h = let z : ◌≡◌ {A = ℕ} 0 1 = cc in absurd (omega arith)
 row_of unit count (n ∷ new) id d h =
@@ -57,7 +58,7 @@ row_of unit count (n ∷ new) id d h =
       row = n;
       of_unit = same_equal n.unit unit (and_left (same n.unit unit) (eqb n.count count) e);
       of_count = eqb-true n.count count (and_right (same n.unit unit) (eqb n.count count) e);
-      found = rw (equal_same n.id id (some-injective n.id id (rw e at h)));
+      found = rw (equal_same n.id id (Some-injective n.id id (rw e at h)));
     })
     (λ e.
     let absent = not-true (any (same n.id) (new_ids new)) (and_left (not (any (same n.id) (new_ids new))) (distinct (new_ids new)) d) in
@@ -67,23 +68,23 @@ row_of unit count (n ∷ new) id d h =
     record { row = more.row; of_unit = more.of_unit; of_count = more.of_count; found = rw other more.found })
 
 -- what each new segment has, the one found has
-found_has : (p : New → Bool) (id : List ℕ) (new : List New) (n : New) → all p new ≡ true → new_for id new ≡ some n → p n ≡ true
+found_has : (p : New → Bool) (id : List ℕ) (new : List New) (n : New) → all p new ≡ true → new_for id new ≡ Some n → p n ≡ true
 unfolding all new_for
 found_has p id [] n h e = let z : ◌≡◌ {A = ℕ} 0 1 = cc in absurd (omega arith)
 found_has p id (m ∷ new) n h e =
     by_test (same m.id id)
-    (λ f. rw (← (some-injective m n (rw f at e))) (and_left (p m) (all p new) h))
+    (λ f. rw (← (Some-injective m n (rw f at e))) (and_left (p m) (all p new) h))
     (λ f. found_has p id new n (and_right (p m) (all p new) h) (rw f at e))
 
 -- ---- the sequence of a name, in the old segments and the new ones
 
 -- an ID finds the sequence of its new segment
-found_sequence : (id : List ℕ) (new : List New) (n : New) → new_for id new ≡ some n → sequence_of (map as_segment new) id ≡ some n.sequence
+found_sequence : (id : List ℕ) (new : List New) (n : New) → new_for id new ≡ Some n → sequence_of (map as_segment new) id ≡ Some n.sequence
 unfolding new_for sequence_of as_segment
 found_sequence id [] n e = let z : ◌≡◌ {A = ℕ} 0 1 = cc in absurd (omega arith)
 found_sequence id (m ∷ new) n e =
     by_test (same m.id id)
-    (λ f. rw (f, some-injective m n (rw f at e)))
+    (λ f. rw (f, Some-injective m n (rw f at e)))
     (λ f. rw f (found_sequence id new n (rw f at e)))
 
 -- a name of no segment is looked for behind them
@@ -95,7 +96,7 @@ sequence_behind (s ∷ ss) more name h =
     (sequence_behind ss more name (or_right (same name s.id) (any (same name) (ids ss)) h))
 
 -- a segment's name finds its sequence, whatever stands behind
-pub sequence_before : (ss more : List Segment) (name seq : List ℕ) → sequence_of ss name ≡ some seq → sequence_of (ss ++ more) name ≡ some seq
+pub sequence_before : (ss more : List Segment) (name seq : List ℕ) → sequence_of ss name ≡ Some seq → sequence_of (ss ++ more) name ≡ Some seq
 unfolding sequence_of
 sequence_before [] more name seq h = let z : ◌≡◌ {A = ℕ} 0 1 = cc in absurd (omega arith)
 sequence_before (s ∷ ss) more name seq h =
@@ -104,7 +105,7 @@ sequence_before (s ∷ ss) more name seq h =
     (λ e. rw e (sequence_before ss more name seq (rw e at h)))
 
 -- a name that finds a sequence is a segment's
-pub sequence_in : (ss : List Segment) (name seq : List ℕ) → sequence_of ss name ≡ some seq → any (same name) (ids ss) ≡ true
+pub sequence_in : (ss : List Segment) (name seq : List ℕ) → sequence_of ss name ≡ Some seq → any (same name) (ids ss) ≡ true
 unfolding sequence_of ids any
 sequence_in [] name seq h = let z : ◌≡◌ {A = ℕ} 0 1 = cc in absurd (omega arith)
 sequence_in (s ∷ ss) name seq h =
@@ -133,22 +134,22 @@ new_bytes p ss new r h =
 
 module _ (ss : List Segment) (made : Made) (sound : SoundTable ss made) where
   -- an ID that was made is no segment's
-  pub new_outside : (unit : List ℕ) (count : ℕ) (id : List ℕ) → made_for unit count made.new ≡ some id → any (same id) (ids ss) ≡ false
+  pub new_outside : (unit : List ℕ) (count : ℕ) (id : List ℕ) → made_for unit count made.new ≡ Some id → any (same id) (ids ss) ≡ false
   new_outside unit count id h =
       refute (any (same id) (ids ss)) (λ i. clash (made_in unit count made.new id h) (apart_absent id (ids ss) (new_ids made.new) sound.outside i))
 
   -- an ID is made for one unit
-  pub new_unit : (unit unit' : List ℕ) (count count' : ℕ) (id : List ℕ) → made_for unit count made.new ≡ some id → made_for unit' count' made.new ≡ some id
+  pub new_unit : (unit unit' : List ℕ) (count count' : ℕ) (id : List ℕ) → made_for unit count made.new ≡ Some id → made_for unit' count' made.new ≡ Some id
       → unit ≡ unit'
   new_unit unit unit' count count' id h h' =
       let a = row_of unit count made.new id sound.different h in
       let b = row_of unit' count' made.new id sound.different h' in
-      let e : a.row ≡ b.row = some-injective a.row b.row (sym a.found ∙ b.found) in
+      let e : a.row ≡ b.row = Some-injective a.row b.row (sym a.found ∙ b.found) in
       sym a.of_unit ∙ ap (λ n. n.unit) e ∙ b.of_unit
 
   -- a new ID finds the repeated unit
-  pub new_sequence : (unit : List ℕ) (count : ℕ) (id : List ℕ) → made_for unit count made.new ≡ some id
-      → sequence_of (ss ++ map as_segment made.new) id ≡ some (repeat count (sequence_or_empty ss unit))
+  pub new_sequence : (unit : List ℕ) (count : ℕ) (id : List ℕ) → made_for unit count made.new ≡ Some id
+      → sequence_of (ss ++ map as_segment made.new) id ≡ Some (repeat count (sequence_or_empty ss unit))
   unfolding is_repeated
   new_sequence unit count id h =
       let a = row_of unit count made.new id sound.different h in

@@ -3,7 +3,7 @@ use Prim.Native.Nat.{ℕ}
 use native.Mathlib.Omega.{arith}
 use mathlib.Core.Bool.{Bool, true, false, not}
 use mathlib.Core.List.{List, ◌++◌, map, map-map}
-use mathlib.Core.Option.{none}
+use Rattle.std.specs.Prelude.{None}
 use mathlib.Core.Path.{◌≡◌, refl, sym, ap, ◌∙◌}
 use Rattle.gfa_spec.specs.Bytes.{keep, Each}
 use Rattle.gfa_spec.specs.Reading.{fields, Path, Entry, segment, link, path, Parsed, refused_at, parsed, parse, choose}
@@ -111,7 +111,7 @@ module _ (es : List Entry) (cap : ℕ) (from : Each From es) where
 -- ---- the text
 
 -- the rewritten text has no bad byte
-pub rewritten_clean : (es : List Entry) (cap : ℕ) → Each From es → bad_byte 0 (rewritten es cap) ≡ none
+pub rewritten_clean : (es : List Entry) (cap : ℕ) → Each From es → bad_byte 0 (rewritten es cap) ≡ None
 rewritten_clean es cap from = rw rewritten_output (written_good (output es cap) (each_implies (λ e g. g.line) (output es cap) (output_good es cap from)))
 
 -- the rewritten text is read as the entries of the output, but for the places of their steps
@@ -132,7 +132,7 @@ erased_parsed (parsed after) es e = (after, refl, cc)
 
 -- What reading the output again gives: no bad byte, the raw lines, the old and the new segments, the links kept and added, and the paths with their new steps.
 pub record Reread (es : List Entry) (cap : ℕ) (text : List ℕ) (after : List Entry) : Type 0 where
-  pub clean : bad_byte 0 text ≡ none
+  pub clean : bad_byte 0 text ≡ None
   pub reads : parse text ≡ parsed after
   pub old_leading : leading after ≡ leading es
   pub old_others : others after ≡ others es
@@ -148,7 +148,7 @@ unfolding erase_path erase_step unplaced as_new
 path_as_new ps = map-map (λ p. map as_new p.steps) erase_path ps ∙ simp map-map
 
 -- the records of entries that are those of the output but for places
-after_reread : (es : List Entry) (cap : ℕ) (text : List ℕ) (after : List Entry) → bad_byte 0 text ≡ none → parse text ≡ parsed after
+after_reread : (es : List Entry) (cap : ℕ) (text : List ℕ) (after : List Entry) → bad_byte 0 text ≡ None → parse text ≡ parsed after
     → map erase after ≡ map erase (output es cap) → Reread es cap text after
 unfolding new_segments new_links
 after_reread es cap text after clean reads e =
@@ -168,7 +168,7 @@ after_reread es cap text after clean reads e =
     }
 
 -- the rewritten text of a text with no bad byte is read again
-pub reread : (text : List ℕ) (es : List Entry) (cap : ℕ) → bad_byte 0 text ≡ none → parse text ≡ parsed es
+pub reread : (text : List ℕ) (es : List Entry) (cap : ℕ) → bad_byte 0 text ≡ None → parse text ≡ parsed es
     → (after : List Entry) × Reread es cap (rewritten es cap) after
 reread text es cap good reads =
     let from = parse_from text es good reads in

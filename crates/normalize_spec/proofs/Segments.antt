@@ -3,7 +3,7 @@ use Prim.Native.Nat.{ℕ, suc}
 use native.Mathlib.Omega.{arith}
 use mathlib.Core.Bool.{Bool, true, false, not}
 use mathlib.Core.List.{List, [], ◌∷◌, ◌++◌, map, map-append, append-nil, append_assoc}
-use mathlib.Core.Option.{Option, none, some}
+use Rattle.std.specs.Prelude.{Option, None, Some}
 use mathlib.Core.Path.{◌≡◌, refl, ◌∙◌}
 use borrow.Author.Tests.{lt-ltb}
 use Rattle.gfa_spec.specs.Bytes.{same, any, all, repeat, distinct}
@@ -19,13 +19,13 @@ use Rattle.normalize_spec.proofs.Ids.{below, below_number, below_more, new_id_fr
 -- ---- what each new segment keeps, all keep
 
 module _ (ss fs : List Segment) (P : Made → Type 0)
-    (step : (r : Run) (made : Made) → is_folded_run fs r ≡ true → made_for r.step.name.bytes r.count made.new ≡ none → P made → P (make_segment ss r made)) where
+    (step : (r : Run) (made : Made) → is_folded_run fs r ≡ true → made_for r.step.name.bytes r.count made.new ≡ None → P made → P (make_segment ss r made)) where
   -- folding a run keeps P
   fold_keeps : (r : Run) (made : Made) (o : Option (List ℕ)) → made_for r.step.name.bytes r.count made.new ≡ o → is_folded_run fs r ≡ true → P made
       → P (fold_run ss r made).made
   unfolding fold_run onto
-  fold_keeps r made (some id) e f h = rw (e, fold_run) h
-  fold_keeps r made none e f h = rw (e, fold_run) (step r made f e h)
+  fold_keeps r made (Some id) e f h = rw (e, fold_run) h
+  fold_keeps r made None e f h = rw (e, fold_run) (step r made f e h)
 
   -- so does any run
   turn_keeps : (r : Run) (made : Made) → P made → P (turn ss fs r made).made
@@ -64,7 +64,7 @@ is_repeated ss n = same n.sequence (repeat n.count (sequence_or_empty ss n.unit)
 -- What holds of the new segments at any time.
 pub record SoundTable (ss : List Segment) (made : Made) : Type 0 where
   -- all IDs so far are numbers below the next one, if there is a next one
-  pub numbers : (n : ℕ) → made.next ≡ some n → all (below n) (taken ss made.new) ≡ true
+  pub numbers : (n : ℕ) → made.next ≡ Some n → all (below n) (taken ss made.new) ≡ true
   -- the new IDs differ from the segments' and from each other
   pub outside : apart (ids ss) (new_ids made.new) ≡ true
   pub different : distinct (new_ids made.new) ≡ true
@@ -77,7 +77,7 @@ none_sound : (ss : List Segment) → SoundTable ss (none_made ss)
 unfolding none_made taken ids new_ids
 none_sound ss = record { numbers = numbers; outside = unfold apart all in refl; different = unfold distinct in refl; names = unfold all in refl; repeated = unfold all in refl }
   where
-    numbers : (n : ℕ) → next_after (usable (largest_id 0 ss)) ≡ some n → all (below n) (ids ss ++ []) ≡ true
+    numbers : (n : ℕ) → next_after (usable (largest_id 0 ss)) ≡ Some n → all (below n) (ids ss ++ []) ≡ true
     numbers n e =
         let (m, l, b, s) = next_usable (largest_id 0 ss) n e in
         rw (append-nil, s) (largest_bound 0 m ss l).1
@@ -98,7 +98,7 @@ unfolding all
 all_more p xs x h e = rw (all_append p xs (x ∷ []), h, e)
 
 -- the number of a new ID is the next one's predecessor
-make_numbers : (ss : List Segment) (r : Run) (made : Made) → SoundTable ss made → (m : ℕ) → next_after (usable made.next) ≡ some m
+make_numbers : (ss : List Segment) (r : Run) (made : Made) → SoundTable ss made → (m : ℕ) → next_after (usable made.next) ≡ Some m
     → all (below m) (taken ss made.new ++ ((new_segment ss r made).id ∷ [])) ≡ true
 unfolding new_segment
 make_numbers ss r made h m e =

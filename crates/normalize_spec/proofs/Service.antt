@@ -3,7 +3,7 @@ use Prim.Native.Nat.{ℕ, ◌≤◌}
 use native.Mathlib.Omega.{arith}
 use mathlib.Core.Bool.{true, false}
 use mathlib.Core.List.{List}
-use mathlib.Core.Option.{Option, none, some}
+use Rattle.std.specs.Prelude.{Option, None, Some}
 use mathlib.Core.Path.{◌≡◌, refl}
 use lib.Dec.{ltb}
 use lib.ListN.{length}
@@ -29,7 +29,7 @@ use Rattle.normalize_spec.proofs.Demand.{spelling_unchanged, fold_accepts, kept_
 -- Either none is folded and the text is returned, or some segment is folded, no step is bad and the text is rewritten.
 pub data AcceptedAs (text : List ℕ) (cap : ℕ) (es : List Entry) : List ℕ → Stats → Type 0 where
   returned : is_empty (folded es cap) ≡ true → AcceptedAs text cap es text (unchanged es)
-  rewrote : is_empty (folded es cap) ≡ false → bad_step es (paths es) ≡ none → AcceptedAs text cap es (rewritten es cap) (rewritten_stats es cap)
+  rewrote : is_empty (folded es cap) ≡ false → bad_step es (paths es) ≡ None → AcceptedAs text cap es (rewritten es cap) (rewritten_stats es cap)
 
 -- a refusal is no answer
 pub not_normal : {r : Refusal} {output : List ℕ} {st : Stats} → Normal.refusal r ≡ normal output st → ⊥
@@ -56,8 +56,8 @@ fitted_normal room (normal o s) output st e =
 fold_normal : (text : List ℕ) (cap : ℕ) (es : List Entry) (output : List ℕ) (st : Stats) (o : Option Refusal) → is_empty (folded es cap) ≡ false
     → bad_step es (paths es) ≡ o → fold es cap o ≡ normal output st → AcceptedAs text cap es output st
 unfolding fold
-fold_normal text cap es output st (some r) some-folded b e = absurd (not_normal e)
-fold_normal text cap es output st none some-folded b e =
+fold_normal text cap es output st (Some r) some-folded b e = absurd (not_normal e)
+fold_normal text cap es output st None some-folded b e =
     given (rewritten es cap) (rewritten_stats es cap) output st (rewrote some-folded b) (rw (spelling_unchanged es cap b) at e)
 
 -- the answer to admitted entries

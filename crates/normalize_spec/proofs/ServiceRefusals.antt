@@ -4,7 +4,7 @@ use native.Mathlib.Omega.{arith}
 use mathlib.Core.Bool.{false}
 use mathlib.Core.List.{List}
 use mathlib.Core.Logic.{◌⊎◌, inl, inr}
-use mathlib.Core.Option.{Option, none, some}
+use Rattle.std.specs.Prelude.{Option, None, Some}
 use mathlib.Core.Path.{◌≡◌, refl, sym, ◌∙◌}
 use lib.Dec.{ltb}
 use lib.ListN.{length}
@@ -27,7 +27,7 @@ use Rattle.normalize_spec.proofs.Service.{AcceptedAs, not_normal, entries_answer
 -- Why a normalization is refused: 1 to 17 before anything is folded; 18 or 19 where some segment is folded; 22 where the answer has no room.
 pub data Refuses (text : List ℕ) (cap room work : ℕ) : Refusal → Type 0 where
   bad_input : {r : Refusal} → InputRefuses text work r → Refuses text cap room work r
-  bad_step_refused : {r : Refusal} (es : List Entry) → Admitted text work es → is_empty (folded es cap) ≡ false → bad_step es (paths es) ≡ some r
+  bad_step_refused : {r : Refusal} (es : List Entry) → Admitted text work es → is_empty (folded es cap) ≡ false → bad_step es (paths es) ≡ Some r
       → Refuses text cap room work r
   no_room : (es : List Entry) (output : List ℕ) (st : Stats) → Admitted text work es → AcceptedAs text cap es output st → room < length output
       → Refuses text cap room work (plainly 22)
@@ -42,8 +42,8 @@ module _ (text : List ℕ) (cap room work : ℕ) (r : Refusal) where
       → fold es cap o ≡ Normal.refusal r
       → Refuses text cap room work r
   unfolding fold
-  fold_refused es (some q) a some-folded b e = refuses_given (bad_step_refused es a some-folded b) e
-  fold_refused es none a some-folded b e = absurd (not_normal (sym (rw (spelling_unchanged es cap b) at e)))
+  fold_refused es (Some q) a some-folded b e = refuses_given (bad_step_refused es a some-folded b) e
+  fold_refused es None a some-folded b e = absurd (not_normal (sym (rw (spelling_unchanged es cap b) at e)))
 
   -- an input that is not answered
   input_unanswered : (i : Input) → input text work ≡ i → normalize_entries text cap i ≡ Normal.refusal r → Refuses text cap room work r
@@ -86,8 +86,8 @@ Numbered (normal output st) = Unit {0}
 -- a folding
 fold_numbered : (es : List Entry) (cap : ℕ) (o : Option Refusal) → bad_step es (paths es) ≡ o → Numbered (fold es cap o)
 unfolding fold
-fold_numbered es cap (some r) b = let h = bad_step_numbered es (paths es) r b in (omega arith, inl h.1)
-fold_numbered es cap none b = rw (spelling_unchanged es cap b) tt
+fold_numbered es cap (Some r) b = let h = bad_step_numbered es (paths es) r b in (omega arith, inl h.1)
+fold_numbered es cap None b = rw (spelling_unchanged es cap b) tt
 
 -- a call
 entries_numbered : (text : List ℕ) (cap : ℕ) (i : Input) → NumberedInput i → Numbered (normalize_entries text cap i)

@@ -2,7 +2,7 @@
 use Prim.Native.Nat.{ℕ}
 use mathlib.Core.Bool.{true}
 use mathlib.Core.List.{List, [], ◌∷◌, ◌++◌, map, append-nil, map-append}
-use mathlib.Core.Option.{some}
+use Rattle.std.specs.Prelude.{Some}
 use mathlib.Core.Path.{◌≡◌, refl, sym, ap, ◌∙◌}
 use Rattle.gfa_spec.specs.Bytes.{join, copies, repeat, Each}
 use Rattle.gfa_spec.specs.Reading.{Step, Segment}
@@ -60,7 +60,7 @@ spell_new_copies comp ss n a = rw (map_copies, join_copies)
 
 -- What the segments of the output have to give for a run: its repeated unit under the new ID, or its unit under its name.
 pub record Given (ss fs after : List Segment) (new : List New) (r : Run) : Type 0 where
-  pub folded : is_folded_run fs r ≡ true → sequence_of after (id_for new r) ≡ some (repeat r.count (sequence_or_empty ss r.step.name.bytes))
+  pub folded : is_folded_run fs r ≡ true → sequence_of after (id_for new r) ≡ Some (repeat r.count (sequence_or_empty ss r.step.name.bytes))
   pub kept : sequence_of after r.step.name.bytes ≡ sequence_of ss r.step.name.bytes
 
 -- a run's image spells what the run spells

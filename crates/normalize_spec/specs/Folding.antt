@@ -1,7 +1,7 @@
 -- Which segments are folded, and what the paths become. Document 01, "Folding", rules 1, 2, 4 and 5.
 -- `ss` are the segments of the text, `fs` the folded ones.
 use Rattle.std.specs.Prelude.{ℕ, zero, suc, max, Bool, true, false, cond, not, ◌&&◌, ◌||◌, List, [], ◌∷◌, ◌++◌, map, eqb, leb, ltb, length}
-use Rattle.std.proofs.Math.Option.{Option, none, some}
+use Rattle.std.specs.Prelude.{Option, None, Some}
 use Rattle.gfa_spec.specs.Bytes.{bytes, same, star, is_empty, any, keep, copies, repeat}
 use Rattle.gfa_spec.specs.Decimal.{decimal, is_digit, largest64, number_of}
 use Rattle.gfa_spec.specs.Reading.{Step, Segment, Link, Path, Entry}
@@ -48,13 +48,13 @@ is_folded_run fs r = is_repeat r && any (λ s. same s.id r.step.name.bytes) fs
 
 -- the largest of n and the IDs, where every ID reads as a decimal number
 unfoldable pub largest_id : ℕ → List Segment → Option ℕ
-largest_id n [] = some n
-largest_id n (s ∷ ss) = elim (number_of s.id) as (λ _. Option ℕ) [ none ↦ none | some m ↦ largest_id (max n m) ss ]
+largest_id n [] = Some n
+largest_id n (s ∷ ss) = elim (number_of s.id) as (λ _. Option ℕ) [ None ↦ None | Some m ↦ largest_id (max n m) ss ]
 
 -- a number is used while it is below 18446744073709551615
 unfoldable pub usable : Option ℕ → Option ℕ
-usable none = none
-usable (some n) = cond (ltb n largest64) (some n) none
+usable None = None
+usable (Some n) = cond (ltb n largest64) (Some n) None
 
 -- A-Z a-z 0-9 `_` (95) `.` (46) `:` (58) `#` (35)
 unfoldable pub is_plain : ℕ → Bool
@@ -81,8 +81,8 @@ free_name taken base = cond (any (same base) taken) (suffixed (suc (length taken
 
 -- the new ID of a unit and a run length: the next number where one may be used, else a name
 unfoldable pub new_id : List (List ℕ) → List ℕ → ℕ → Option ℕ → List ℕ
-new_id taken name count none = free_name taken (base_name name count)
-new_id taken name count (some n) = decimal n
+new_id taken name count None = free_name taken (base_name name count)
+new_id taken name count (Some n) = decimal n
 
 -- ---- rule 4: new segments, and paths over them
 
@@ -100,8 +100,8 @@ pub record Made : Type 0 where
 
 -- the ID of the segment that was made for a unit and a run length
 unfoldable pub made_for : List ℕ → ℕ → List New → Option (List ℕ)
-made_for unit count [] = none
-made_for unit count (n ∷ ns) = cond (same n.unit unit && eqb n.count count) (some n.id) (made_for unit count ns)
+made_for unit count [] = None
+made_for unit count (n ∷ ns) = cond (same n.unit unit && eqb n.count count) (Some n.id) (made_for unit count ns)
 
 -- the IDs that are taken: those of the text, and of the new segments
 unfoldable pub taken : List Segment → List New → List (List ℕ)
@@ -120,8 +120,8 @@ new_segment ss r made =
 
 -- counting up
 unfoldable pub next_after : Option ℕ → Option ℕ
-next_after none = none
-next_after (some n) = some (suc n)
+next_after None = None
+next_after (Some n) = Some (suc n)
 
 -- a new segment more, behind the others
 unfoldable pub make_segment : List Segment → Run → Made → Made
@@ -157,8 +157,8 @@ onto r id made = record { made = made; steps = record { name = id; orientation =
 unfoldable pub fold_run : List Segment → Run → Made → Transformed
 fold_run ss r made =
     elim (made_for r.step.name.bytes r.count made.new) as (λ _. Transformed) [
-      | some id ↦ onto r id made
-      | none ↦ onto r (new_segment ss r made).id (make_segment ss r made)
+      | Some id ↦ onto r id made
+      | None ↦ onto r (new_segment ss r made).id (make_segment ss r made)
     ]
 
 -- any other run keeps its steps

@@ -1,6 +1,6 @@
 -- What every accepted normalization keeps: demand 3, stated of the bytes that were written, read again. Document 01, "Folding", last paragraph.
 use Rattle.std.specs.Prelude.{ℕ, ◌+◌, ◌-◌, ◌≤◌, Bool, true, cond, not, ◌&&◌, ◌||◌, List, [], map, ◌≡◌, eqb, leb, length}
-use Rattle.std.proofs.Math.Option.{none}
+use Rattle.std.specs.Prelude.{None}
 use Rattle.gfa_spec.specs.Bytes.{all, sum, nth}
 use Rattle.gfa_spec.specs.Reading.{Step, Segment, Entry, parsed, parse}
 use Rattle.gfa_spec.specs.Records.{segments, paths, has_sequence, self_links}
@@ -29,7 +29,7 @@ loss fs steps = sum (map (loss_of fs) (runs steps))
 -- `output` is what a normalization of the text with entries es under the cap wrote, and `after` its entries.
 pub record Kept (es : List Entry) (cap : ℕ) (output : List ℕ) (after : List Entry) : Type 0 where
   -- the output can be read, at any length
-  pub clean : bad_byte 0 output ≡ none
+  pub clean : bad_byte 0 output ≡ None
   pub reads : parse output ≡ parsed after
   -- path k is set against path k
   pub as_many : length (paths after) ≡ length (paths es)

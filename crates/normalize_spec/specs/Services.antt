@@ -1,6 +1,6 @@
 -- The service that normalizes: the refusals in their order, and the answer. Document 01, "The four services", "Refused calls", and rule 3.
 use Rattle.std.specs.Prelude.{ℕ, Bool, true, false, cond, ◌&&◌, List, [], ◌∷◌, ◌++◌, map, ltb, length}
-use Rattle.std.proofs.Math.Option.{Option, none, some}
+use Rattle.std.specs.Prelude.{Option, None, Some}
 use Rattle.gfa_spec.specs.Bytes.{same, is_empty}
 use Rattle.gfa_spec.specs.Reading.{Step, Segment, Entry, Path}
 use Rattle.gfa_spec.specs.Records.{segments, paths}
@@ -46,8 +46,8 @@ unchanged_spelling es cap =
 
 -- 18 and 19; then 20: a path's spelling changed, which never happens (proofs/Service); else the rewritten text
 unfoldable pub fold : List Entry → ℕ → Option Refusal → Normal
-fold es cap (some r) = Normal.refusal r
-fold es cap none = cond (unchanged_spelling es cap) (normal (rewritten es cap) (rewritten_stats es cap)) (Normal.refusal (plainly 20))
+fold es cap (Some r) = Normal.refusal r
+fold es cap None = cond (unchanged_spelling es cap) (normal (rewritten es cap) (rewritten_stats es cap)) (Normal.refusal (plainly 20))
 
 -- rule 3: where none is folded the text returns byte for byte; 18 and 19 are given only where some segment is folded
 unfoldable pub normalize_entries : List ℕ → ℕ → Input → Normal

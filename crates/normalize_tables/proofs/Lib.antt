@@ -1,5 +1,6 @@
 -- Laws of the normalizer's tables, in reading order.
 pub mod Lists
+pub mod Words
 pub mod Sources
 pub mod Nodes
 pub mod Numbered

@@ -1,111 +1,44 @@
 -- The words of a row of the normalizer's tables, by its number. Assumes nothing.
 use Prim.Native.Nat.{ℕ, zero, suc, ◌+◌, ◌*◌, ◌-◌, ◌≤◌, ◌<◌}
 use native.Mathlib.Omega.{arith}
-use native.Mathlib.Nat.{mul-suc}
 use native.Mathlib.Numerals.{add-one}
-use mathlib.Core.Bool.{false}
 use mathlib.Core.List.{List, [], ◌∷◌, ◌++◌}
 use mathlib.Core.Logic.{◌⊎◌, inl, inr}
 use mathlib.Core.Path.{◌≡◌, refl, ap}
-use lib.Dec.{eqb}
 use lib.ListN.{length, get_or}
-use lib.Seq.{sets, length-sets}
-use borrow.Author.Tests.{eq-eqb, ne_eqb}
+use denote.Enum.Bare.{sameb}
+use lib.Dec.{eqb}
+use mathlib.Core.Bool.{◌&&◌}
+use Rattle.scan.specs.contracts.orientation.Orientation.{the_type}
+use Rattle.scan.proofs.Orientations.{eq_signs}
+use Rattle.scan.specs.declared.orientation.Orientation.{Orientation}
+use Rattle.scan.specs.Orientations.{sign_of}
 use Rattle.work.specs.Rows.{rows_at, span, Only}
-use Rattle.work.proofs.Rows.{KeptWords, only_put, only_then, only_kept, outside_less, rows_snoc, rows_length}
-use Rattle.work.proofs.Stores.{sets_here, sets_first}
+use Rattle.work.proofs.Rows.{KeptWords, only_then, only_kept, outside_less, rows_snoc, rows_length}
 use Rattle.work.proofs.RowCuts.{rows_split, rows_all, rows_cons, rows_none}
 use Rattle.tables.specs.declared.tables.Bases.{Bases}
 use Rattle.tables.specs.declared.tables.Counts.{Counts}
 use Rattle.normalize_tables.specs.declared.layout.Layout.{Layout}
 use Rattle.normalize_tables.specs.declared.layout.Made.{Made}
-use Rattle.normalize_tables.specs.declared.rows.NewSegmentWords.{NewSegmentWords}
 use Rattle.normalize_tables.specs.declared.rows.NewStepWords.{NewStepWords}
-use Rattle.normalize_tables.specs.declared.rows.NewPathWords.{NewPathWords}
-use Rattle.normalize_tables.specs.declared.rows.Ends.{Ends}
 use Rattle.normalize_tables.specs.Layout.{Placed}
-use Rattle.normalize_tables.specs.News.{segment_words, step_words, path_words, new_at, new_step_at, new_steps_at, new_path_at, new_paths_at}
-use Rattle.normalize_tables.specs.NewByNumber.{new_step_no, new_steps_from, new_path_no, new_paths_to, new_paths_from, step_is, ends_no, SegmentRoom, StepRoom, PathRoom, EndsRoom, SegmentRows, StepRows, PathRows, NewSegmentIs, NewStepIs, NewPathIs, step_span, path_span, NewSegmentPut, NewStepPut, NewPathPut, EndsPut, ends_end, ends_span, KeptTo, SegmentsKept, StepsKept, PathsKept}
+use Rattle.normalize_tables.specs.News.{segment_words, step_words, path_words, new_step_at, new_steps_at, new_path_at, new_paths_at}
+use Rattle.normalize_tables.specs.NewByNumber.{new_step_no, new_steps_from, new_path_no, new_paths_to, new_paths_from, ends_no, StepRows, NewStepIs, step_is, step_span, path_span, ends_end, ends_span, KeptTo, SegmentsKept, StepsKept, PathsKept}
 
 -- ---- what a row says
 
-module _ {text work : List ℕ} {b : Bases} {n : Counts} {g : Layout} {q : ℕ} (t : SegmentRows work n g q) where
-  pub segment_is : {first unit count suffix before : ℕ} (j : ℕ) → j < q → unit ≡ get_or work (g.segs + 4 * j) 0 → count ≡ get_or work (g.segs + 4 * j + 1) 0
-      → suffix ≡ get_or work (g.segs + 4 * j + 2) 0 → before ≡ get_or work (g.segs + 4 * j + 3) 0
-      → NewSegmentIs text work b n g first j (record { unit = record { 0 = unit }; count = count; suffix = suffix; before = before })
-  unfolding new_at
-  segment_is j h eu ec es eb =
-      let q = t.row j h in
-      rw (eu, ec, es, eb) (record { words = refl; new = refl; unit = q.unit; count = q.count; suffix = q.suffix })
-
 module _ {work : List ℕ} {n : Counts} {g : Layout} {m : Made} where
-  pub step_told : {node mark : ℕ} (k : ℕ) → StepRows work n g m → k < m.steps → node ≡ get_or work (g.steps + 2 * k) 0 → mark ≡ get_or work (g.steps + 2 * k + 1) 0
+  pub step_told : {node : ℕ} {mark : Orientation} (k : ℕ) → StepRows work n g m → k < m.steps → node ≡ get_or work (g.steps + 2 * k) 0
+      → sign_of mark ≡ get_or work (g.steps + 2 * k + 1) 0
       → NewStepIs work n g m k (record { node = node; mark = mark })
   unfolding new_step_at
-  step_told k t h en em = let q = t.row k h in rw (en, em) (record { words = refl; step = λ names. refl; node = q.node; mark = q.mark })
+  step_told k t h en em = let q = t.row k h in rw en (record { words = rw em; step = λ names. rw em; node = q.node })
 
-  pub path_is : {first count : ℕ} (p : ℕ) → PathRows work n g m → p < n.paths → first ≡ get_or work (g.paths + 2 * p) 0 → count ≡ get_or work (g.paths + 2 * p + 1) 0
-      → NewPathIs work n g m p (record { first = first; end = first + count })
-  unfolding new_path_at
-  path_is {first} {count} p t h ef ec =
-      let z : first + count - first ≡ count = omega arith in
-      record { words = rw (ef, ec); path = λ names. rw (z, ef, ec); low = omega arith; high = rw (ef, ec) (t.row p h).steps }
+-- new steps are equal where their words are
+pub eq_steps : (s t : NewStepWords) → (eqb s.node t.node && sameb the_type s.mark t.mark) ≡ step_is s t
+eq_steps s t = rw (eq_signs s.mark t.mark)
 
 -- ---- rows that are put
-
--- the rows of a table that end where the next one begins
-put_only : (base width k : ℕ) (vs w : List ℕ) → length vs ≡ width → Only (span (base + width * k) (base + width * (k + 1)) ∷ []) w (sets w (base + width * k) vs)
-put_only base width k vs w e = let next : base + width * (k + 1) ≡ base + width * k + length vs = rw (e, add-one, mul-suc) (omega arith) in rw next (only_put vs w (base + width * k))
-
-module _ {w w' : List ℕ} {g : Layout} where
-  pub segment_put : (j : ℕ) (r : NewSegmentWords) → SegmentRoom w g (j + 1) → w' ≡ sets w (g.segs + 4 * j) (r.unit.0 ∷ r.count ∷ r.suffix ∷ r.before ∷ []) → NewSegmentPut w w' g j r
-  segment_put j r h e =
-      let row = r.unit.0 ∷ r.count ∷ r.suffix ∷ r.before ∷ [] in
-      let at = g.segs + 4 * j in
-      let room : at + 4 ≤ length w = omega arith in
-      rw e
-      (record {
-        words = rw (sets_first row w at (omega arith) room, sets_here row w at 1 (omega arith) room, sets_here row w at 2 (omega arith) room, sets_here row w at 3 (omega arith) room);
-        long = length-sets w at row;
-        only = put_only g.segs 4 j row w refl;
-      })
-
-  pub step_put : (k : ℕ) (r : NewStepWords) → StepRoom w g (k + 1) → w' ≡ sets w (g.steps + 2 * k) (r.node ∷ r.mark ∷ []) → NewStepPut w w' g k r
-  step_put k r h e =
-      let row = r.node ∷ r.mark ∷ [] in
-      let at = g.steps + 2 * k in
-      let room : at + 2 ≤ length w = omega arith in
-      rw e
-      (record {
-        words = rw (sets_first row w at (omega arith) room, sets_here row w at 1 (omega arith) room);
-        long = length-sets w at row;
-        only = put_only g.steps 2 k row w refl;
-      })
-
-  pub ends_put : (i : ℕ) (r : Ends) → EndsRoom w g (i + 1) → w' ≡ sets w (g.ends + 3 * i) (r.from ∷ r.to ∷ r.gone ∷ []) → EndsPut w w' g i r
-  ends_put i r h e =
-      let row = r.from ∷ r.to ∷ r.gone ∷ [] in
-      let at = g.ends + 3 * i in
-      let room : at + 3 ≤ length w = omega arith in
-      rw e
-      (record {
-        words = rw (sets_first row w at (omega arith) room, sets_here row w at 1 (omega arith) room, sets_here row w at 2 (omega arith) room);
-        long = length-sets w at row;
-        only = put_only g.ends 3 i row w refl;
-      })
-
-  pub path_put : (p : ℕ) (r : NewPathWords) → PathRoom w g (p + 1) → r.first ≤ r.end → w' ≡ sets w (g.paths + 2 * p) (r.first ∷ (r.end - r.first) ∷ []) → NewPathPut w w' g p r
-  path_put p r h l e =
-      let row = r.first ∷ (r.end - r.first) ∷ [] in
-      let at = g.paths + 2 * p in
-      let room : at + 2 ≤ length w = omega arith in
-      let whole : r.first + (r.end - r.first) ≡ r.end = omega arith in
-      rw e
-      (record {
-        words = rw (sets_first row w at (omega arith) room, sets_here row w at 1 (omega arith) room, whole);
-        long = length-sets w at row;
-        only = put_only g.paths 2 p row w refl;
-      })
 
 -- the ends of one link more
 pub ends_joined : {w v u : List ℕ} (g : Layout) (i : ℕ) → Only (ends_span g 0 i ∷ []) w v → Only (ends_span g i (i + 1) ∷ []) v u → Only (ends_span g 0 (i + 1) ∷ []) w u
@@ -277,12 +210,3 @@ module _ (names names' : List (List ℕ)) (w w' : List ℕ) (g : Layout) where
   pub new_paths_alike : (p : ℕ) → ((i : ℕ) → i < p → new_path_no names' w' g i ≡ new_path_no names w g i) → new_paths_to names' w' g p ≡ new_paths_to names w g p
   unfolding new_paths_at
   new_paths_alike p e = rows_alike (new_path_at names g.steps) (new_path_at names' g.steps) 2 w w' g.paths p e
-
--- ---- new steps compared
-
-module _ (s t : NewStepWords) where
-  pub nodes_differ : (s.node ≡ t.node → ⊥) → false ≡ step_is s t
-  nodes_differ e = rw (ne_eqb s.node t.node e)
-
-  pub marks_decide : s.node ≡ t.node → eqb s.mark t.mark ≡ step_is s t
-  marks_decide e = rw (eq-eqb s.node t.node e)

@@ -1,10 +1,12 @@
 -- Rows of the new segments, steps and paths by their numbers: what a row's number stands for, and what the words of a row say. Above this crate
 -- no width and no place of such a row need be named.
-use Rattle.std.specs.Prelude.{ℕ, ◌+◌, ◌*◌, ◌-◌, ◌≤◌, ◌<◌, Bool, true, ◌&&◌, List, [], ◌∷◌, ◌≡◌, eqb, length, get_or}
+use Rattle.std.specs.Prelude.{ℕ, ◌+◌, ◌*◌, ◌-◌, ◌≤◌, ◌<◌, Bool, ◌&&◌, List, [], ◌∷◌, ◌≡◌, eqb, length, get_or}
 use Rattle.gfa_spec.specs.Bytes.{nth}
-use Rattle.gfa_spec.specs.Reading.{is_orientation}
 use Rattle.normalize_spec.specs.Folding.{NewStep}
-use Rattle.work.specs.Rows.{EachRow, Range, span, Only}
+use Rattle.scan.specs.Orientations.{sign_of}
+use Rattle.gfa_spec.specs.Runs.{bit}
+use Rattle.std.proofs.lemmas.List.Edits.{sets}
+use Rattle.work.specs.Rows.{EachRow, Range, span, Only, word_of}
 use Rattle.tables.specs.declared.tables.Bases.{Bases}
 use Rattle.tables.specs.declared.tables.Counts.{Counts}
 use Rattle.normalize_tables.specs.declared.layout.Layout.{Layout}
@@ -13,7 +15,7 @@ use Rattle.normalize_tables.specs.declared.rows.NewSegmentWords.{NewSegmentWords
 use Rattle.normalize_tables.specs.declared.rows.NewStepWords.{NewStepWords}
 use Rattle.normalize_tables.specs.declared.rows.NewPathWords.{NewPathWords}
 use Rattle.normalize_tables.specs.declared.rows.Ends.{Ends}
-use Rattle.normalize_tables.specs.News.{segment_words, step_words, path_words, new_of, new_at, NewRow, new_step_at, new_steps_at, NewStepRow, new_path_at, new_paths_at, NewPathRow}
+use Rattle.normalize_tables.specs.News.{number_in, StepEntry, segment_words, step_words, path_words, new_of, new_at, NewRow, new_step_at, new_steps_at, NewStepRow, new_path_at, new_paths_at, NewPathRow}
 
 -- ---- numbers
 
@@ -35,9 +37,18 @@ new_paths_to names work g p = new_paths_at names g.steps work g.paths p
 abbrev pub new_paths_from : List (List ℕ) → List ℕ → Counts → Layout → ℕ → List (List NewStep)
 new_paths_from names work n g p = new_paths_at names g.steps work (g.paths + 2 * p) (n.paths - p)
 
--- the three words of the ends of link i
+-- what the three words of link i say: the nodes at its ends, and 1 where it is removed
 abbrev pub ends_no : List ℕ → Layout → ℕ → Ends
-ends_no work g i = record { from = get_or work (g.ends + 3 * i) 0; to = get_or work (g.ends + 3 * i + 1) 0; gone = get_or work (g.ends + 3 * i + 2) 0 }
+ends_no work g i =
+    record {
+      from = number_in (get_or work (g.ends + 3 * i) 0);
+      to = number_in (get_or work (g.ends + 3 * i + 1) 0);
+      gone = eqb (get_or work (g.ends + 3 * i + 2) 0) 1;
+    }
+
+-- the words of a link's ends
+abbrev pub ends_words : Ends → List ℕ
+ends_words r = word_of r.from ∷ word_of r.to ∷ bit r.gone ∷ []
 
 -- the word behind the rows of the ends of the first i links
 abbrev pub ends_end : Layout → ℕ → ℕ
@@ -95,16 +106,19 @@ pub record NewSegmentIs (text work : List ℕ) (b : Bases) (n : Counts) (g : Lay
   pub count : r.count ≤ n.steps
   pub suffix : r.suffix ≤ n.segs + n.steps
 
+-- the words of a new step's row
+abbrev pub step_entry : NewStepWords → StepEntry
+step_entry s = record { node = s.node; mark = sign_of s.mark }
+
 -- the new step that words stand for; `names` are the IDs of the nodes
 abbrev pub step_in : List (List ℕ) → NewStepWords → NewStep
-step_in names s = record { name = nth s.node names []; orientation = s.mark }
+step_in names s = record { name = nth s.node names []; orientation = sign_of s.mark }
 
 -- The words are those of new step k.
 pub record NewStepIs (work : List ℕ) (n : Counts) (g : Layout) (m : Made) (k : ℕ) (r : NewStepWords) : Type 0 where
-  pub words : r ≡ step_words work g k
+  pub words : step_entry r ≡ step_words work g k
   pub step : (names : List (List ℕ)) → new_step_no names work g k ≡ step_in names r
   pub node : r.node < n.segs + m.segs
-  pub mark : is_orientation r.mark ≡ true
 
 -- The words are those of new path p; its steps are rows of the table of new steps.
 pub record NewPathIs (work : List ℕ) (n : Counts) (g : Layout) (m : Made) (p : ℕ) (r : NewPathWords) : Type 0 where
@@ -113,9 +127,9 @@ pub record NewPathIs (work : List ℕ) (n : Counts) (g : Layout) (m : Made) (p :
   pub low : r.first ≤ r.end
   pub high : r.end ≤ m.steps
 
--- two new steps have the same words
+-- two new steps have the same words: what `==` says of them, by `eq_steps` of proofs/NewByNumber
 abbrev pub step_is : NewStepWords → NewStepWords → Bool
-step_is s t = eqb s.node t.node && eqb s.mark t.mark
+step_is s t = eqb s.node t.node && eqb (sign_of s.mark) (sign_of t.mark)
 
 -- ---- rows that are put
 
@@ -140,7 +154,7 @@ pub record NewSegmentPut (before work : List ℕ) (g : Layout) (j : ℕ) (r : Ne
 
 -- So of new step k.
 pub record NewStepPut (before work : List ℕ) (g : Layout) (k : ℕ) (r : NewStepWords) : Type 0 where
-  pub words : step_words work g k ≡ r
+  pub words : step_words work g k ≡ step_entry r
   pub long : length work ≡ length before
   pub only : Only (step_span g k (k + 1) ∷ []) before work
 
@@ -153,6 +167,7 @@ pub record NewPathPut (before work : List ℕ) (g : Layout) (p : ℕ) (r : NewPa
 -- So of the ends of link i.
 pub record EndsPut (before work : List ℕ) (g : Layout) (i : ℕ) (r : Ends) : Type 0 where
   pub words : ends_no work g i ≡ r
+  pub row : work ≡ sets before (ends_end g i) (ends_words r)
   pub long : length work ≡ length before
   pub only : Only (ends_span g i (i + 1) ∷ []) before work
 

@@ -1,6 +1,6 @@
 -- New segments, new steps and new paths as rows of the work area. Document 01, "Folding", rules 4 and 5.
-use Rattle.std.specs.Prelude.{ℕ, suc, ◌+◌, ◌*◌, ◌≤◌, ◌<◌, true, cond, List, [], ◌∷◌, ◌≡◌, ltb, get_or}
-use Rattle.std.proofs.Math.Option.{Option, none, some, map}
+use Rattle.std.specs.Prelude.{ℕ, zero, suc, ◌+◌, ◌*◌, ◌≤◌, ◌<◌, true, cond, List, [], ◌∷◌, ◌≡◌, ltb, get_or}
+use Rattle.std.specs.Prelude.{Option, option_map, None, Some}
 use Rattle.gfa_spec.specs.Bytes.{same, any, nth, repeat}
 use Rattle.gfa_spec.specs.Decimal.{decimal, largest64}
 use Rattle.gfa_spec.specs.Reading.{Segment, is_orientation}
@@ -13,10 +13,19 @@ use Rattle.tables.specs.declared.tables.Counts.{Counts}
 use Rattle.tables.specs.ByNumber.{segment_no, segments_of}
 use Rattle.normalize_tables.specs.declared.layout.Layout.{Layout}
 use Rattle.normalize_tables.specs.declared.rows.NewSegmentWords.{NewSegmentWords}
-use Rattle.normalize_tables.specs.declared.rows.NewStepWords.{NewStepWords}
 use Rattle.normalize_tables.specs.declared.rows.NewPathWords.{NewPathWords}
 
 -- ---- words
+
+-- The words of a new step's row: its node's number, and its sign.
+pub record StepEntry : Type 0 where
+  pub node : ℕ
+  pub mark : ℕ
+
+-- the number that a word stands for, which may be missing: the word less one, or none for 0; `word_of` of work/specs/Rows is its word
+unfoldable pub number_in : ℕ → Option ℕ
+number_in zero = None
+number_in (suc k) = Some k
 
 -- the words of new segment j, of new step k, of new path p
 abbrev pub segment_words : List ℕ → Layout → ℕ → NewSegmentWords
@@ -25,10 +34,10 @@ segment_words work g j =
       unit = record { 0 = get_or work (g.segs + 4 * j) 0 };
       count = get_or work (g.segs + 4 * j + 1) 0;
       suffix = get_or work (g.segs + 4 * j + 2) 0;
-      before = get_or work (g.segs + 4 * j + 3) 0;
+      before = number_in (get_or work (g.segs + 4 * j + 3) 0);
     }
 
-abbrev pub step_words : List ℕ → Layout → ℕ → NewStepWords
+abbrev pub step_words : List ℕ → Layout → ℕ → StepEntry
 step_words work g k = record { node = get_or work (g.steps + 2 * k) 0; mark = get_or work (g.steps + 2 * k + 1) 0 }
 
 abbrev pub path_words : List ℕ → Layout → ℕ → NewPathWords
@@ -38,8 +47,8 @@ path_words work g p = record { first = get_or work (g.paths + 2 * p) 0; end = ge
 
 -- the first number that a new segment may have; the largest of all stands for none, as it is never used
 unfoldable pub first_of : Option ℕ → ℕ
-first_of none = largest64
-first_of (some m) = m
+first_of None = largest64
+first_of (Some m) = m
 
 -- the first number of a text: the largest ID plus one, where every ID reads as a number
 unfoldable pub first_number : List Segment → ℕ
@@ -59,7 +68,7 @@ new_of text work b first j r =
       sequence = repeat r.count (segment_no text work b r.unit.0).sequence;
     }
 
--- new segment j: its unit's number, the run length, the suffix of its name, and the new segment before it on that unit, counted from 1, or 0
+-- new segment j: its unit's number, the run length, the suffix of its name, and the new segment before it on that unit, if there is one
 unfoldable pub new_at : List ℕ → Bases → Layout → ℕ → List ℕ → ℕ → New
 new_at text b g first work j = new_of text work b first j (segment_words work g j)
 
@@ -81,8 +90,8 @@ names_at text work b n g first q = taken (segments_of text work b n) (news_at te
 
 -- the first place of a string in a list, counted from 0
 unfoldable pub place_of : List (List ℕ) → List ℕ → Option ℕ
-place_of [] x = none
-place_of (y ∷ ys) x = cond (same y x) (some 0) (map suc (place_of ys x))
+place_of [] x = None
+place_of (y ∷ ys) x = cond (same y x) (Some 0) (option_map suc (place_of ys x))
 
 -- The first so many names are the same.
 pub record Agree (nodes : ℕ) (names names' : List (List ℕ)) : Type 0 where

@@ -2,7 +2,7 @@
 use Rattle.std.specs.Prelude.{ℕ, ◌+◌, ◌*◌, ◌≤◌, ◌<◌, not, List, map, ◌≡◌, length}
 use Rattle.gfa_spec.specs.Bytes.{any, count, keep, join, sum}
 use Rattle.gfa_spec.specs.Reading.{Segment}
-use Rattle.gfa_spec.specs.Runs.{bit, runs as runs_of}
+use Rattle.gfa_spec.specs.Runs.{runs as runs_of}
 use Rattle.normalize_spec.specs.Folding.{is_folded_run, none_made, transform_paths}
 use Rattle.normalize_spec.specs.Links.{is_removed, key_of, adjacent, missing}
 use Rattle.normalize_spec.specs.Counting.{folded_runs}
@@ -35,7 +35,7 @@ pub record Folded (text work : List ℕ) (b : Bases) (n : Counts) (g : Layout) (
 
 -- The removed links are marked in the third word of their ends, and the added links stand in their table.
 pub record Relinked (text work : List ℕ) (b : Bases) (n : Counts) (g : Layout) (fs : List Segment) (m : Made) (extra : ℕ) : Type 0 where
-  pub removed : (i : ℕ) → i < n.links → (ends_no work g i).gone ≡ bit (is_removed fs (link_no text work b i))
+  pub removed : (i : ℕ) → i < n.links → (ends_no work g i).gone ≡ is_removed fs (link_no text work b i)
   pub keys : keys_at (names_at text work b n g m.first m.segs) g.steps work g.added extra
       ≡ missing (map key_of (keep (λ l. not (is_removed fs l)) (links_to text work b n.links))) (join (map adjacent (new_paths_to (names_at text work b n g m.first m.segs) work g n.paths)))
   pub rows : EachRow (KeyRow m.steps) 1 work g.added extra

@@ -3,7 +3,7 @@ ghost use Rattle.std.specs.Prelude.{length};
 ghost use Rattle.tables.specs.Tables.{Laid};
 ghost use Rattle.normalize_tables.specs.Layout.{Placed};
 
-use tables::rows::tables_end;
+use tables::graph::tables_end;
 use tables::tables::{Bases, Counts};
 
 // Where each table begins, in words of the work area: a mark for each segment that is eligible, a mark for each that is folded, the last

@@ -1,26 +1,30 @@
 // Rows of the normalizer's tables by their numbers: the words of a row come back by name, in a struct. What stands above this crate knows
 // neither where a row is nor how wide it is.
-ghost use Rattle.std.specs.Prelude.{◌≡◌, ◌+◌, ◌≤◌, ◌<◌};
-ghost use Rattle.normalize_tables.specs.NewByNumber.{NewSegmentThere, NewSegmentIs, NewStepThere, NewStepIs, NewPathThere, NewPathIs, step_is, ends_no, SegmentRoom, StepRoom, PathRoom, EndsRoom, NewSegmentPut, NewStepPut, NewPathPut, EndsPut};
+ghost use Rattle.std.specs.Prelude.{◌≡◌, ◌+◌, ◌≤◌, ◌<◌, length, get_or};
+ghost use Rattle.work.specs.Rows.{word_of};
+ghost use Rattle.normalize_tables.specs.News.{number_in};
+ghost use Rattle.normalize_tables.specs.NewByNumber.{NewSegmentThere, NewSegmentIs, NewStepThere, NewStepIs, NewPathThere, NewPathIs, ends_no, SegmentRoom, StepRoom, PathRoom, EndsRoom, NewSegmentPut, NewStepPut, NewPathPut, EndsPut};
 
 use crate::layout::{Area, Layout};
+use scan::orientation::Orientation;
 use tables::entry::{LinkNo, PathNo, SegmentNo};
+use tables::graph::orientation_at;
 use work::work::{put_row, word};
 
-// A new segment's row: its unit, the run length, the suffix of its name, and the new segment before it on that unit, counted from 1, or 0.
+// A new segment's row: its unit, the run length, the suffix of its name, and the new segment before it on that unit, if there is one.
 #[derive(Clone, Copy)]
 pub struct NewSegmentWords {
     pub unit: SegmentNo,
     pub count: usize,
     pub suffix: usize,
-    pub before: usize,
+    pub before: Option<usize>,
 }
 
 // A new step's row: the number of its node, and its orientation.
-#[derive(Clone, Copy)]
+#[derive(Clone, Copy, PartialEq, Eq)]
 pub struct NewStepWords {
     pub node: usize,
-    pub mark: usize,
+    pub mark: Orientation,
 }
 
 // A new path's row: its new steps, from the first up to, not including, `end`.
@@ -30,15 +34,36 @@ pub struct NewPathWords {
     pub end: usize,
 }
 
-// The row of a link's ends: the words for its nodes, and 1 where it is removed, else 0.
+// The row of a link's ends: the nodes that have their names, and whether it is removed.
 #[derive(Clone, Copy)]
 pub struct Ends {
-    pub from: usize,
-    pub to: usize,
-    pub gone: usize,
+    pub from: Option<usize>,
+    pub to: Option<usize>,
+    pub gone: bool,
+}
+
+// The number that the word at `at` stands for: the word less one, or none for 0.
+pub fn number_at(work: &[u32], at: usize) -> Option<usize>
+    requires { at < length work.now }
+    ensures { result ≡ number_in (get_or work.now at 0) }
+{
+    word(work, at).checked_sub(1)
+}
+
+// The word for a number.
+#[tactic(auto, unfolding(work::specs::Rows::word_of))]
+fn word_for(number: Option<usize>) -> usize
+    requires { word_of number < 4294967296 }
+    ensures { result ≡ word_of number }
+{
+    match number {
+        Some(k) => k + 1,
+        None => 0,
+    }
 }
 
 // New segment `j`.
+#[tactic(auto, unfolding(crate::specs::News::new_at))]
 pub fn new_segment_at(text: &[u8], work: &[u32], a: Area, j: usize) -> NewSegmentWords
     requires { NewSegmentThere work.now a.n a.g a.m.segs j }
     ensures { NewSegmentIs text.now work.now a.b a.n a.g a.m.first j result }
@@ -49,11 +74,12 @@ pub fn new_segment_at(text: &[u8], work: &[u32], a: Area, j: usize) -> NewSegmen
         unit: SegmentNo(unit),
         count: word(work, at + 1),
         suffix: word(work, at + 2),
-        before: word(work, at + 3),
+        before: number_at(work, at + 3),
     }
 }
 
 // New step `k`.
+#[tactic(auto, unfolding(crate::specs::News::new_step_at))]
 pub fn new_step_at(work: &[u32], a: Area, k: usize) -> NewStepWords
     requires { NewStepThere work.now a.n a.g a.m k }
     ensures { NewStepIs work.now a.n a.g a.m k result }
@@ -61,11 +87,12 @@ pub fn new_step_at(work: &[u32], a: Area, k: usize) -> NewStepWords
     let at = a.g.steps + 2 * k;
     NewStepWords {
         node: word(work, at),
-        mark: word(work, at + 1),
+        mark: orientation_at(work, at + 1),
     }
 }
 
 // New path `p`.
+#[tactic(auto, unfolding(crate::specs::News::new_path_at))]
 pub fn new_path_at(work: &[u32], a: Area, p: PathNo) -> NewPathWords
     requires { NewPathThere work.now a.n a.g a.m p.0 }
     ensures { NewPathIs work.now a.n a.g a.m p.0 result }
@@ -86,37 +113,31 @@ pub fn ends_at(work: &[u32], a: Area, i: LinkNo) -> Ends
 {
     let at = a.g.ends + 3 * i.0 as usize;
     Ends {
-        from: word(work, at),
-        to: word(work, at + 1),
-        gone: word(work, at + 2),
+        from: number_at(work, at),
+        to: number_at(work, at + 1),
+        gone: work[at + 2] == 1,
     }
-}
-
-// Are two new steps equal?
-pub fn same_new_step(s: NewStepWords, t: NewStepWords) -> bool
-    ensures { result ≡ step_is s t }
-{
-    if s.node != t.node {
-        return false;
-    }
-    s.mark == t.mark
 }
 
 // Puts the row of new segment `j`.
 pub fn put_new_segment(work: &mut [u32], g: Layout, j: usize, r: NewSegmentWords)
-    requires { SegmentRoom work.old g (j + 1) × (r.count < 4294967296) × (r.suffix < 4294967296) × (r.before < 4294967296) }
+    requires { SegmentRoom work.old g (j + 1) × (r.count < 4294967296) × (r.suffix < 4294967296) × (word_of r.before < 4294967296) }
     ensures { NewSegmentPut work.old work.new g j r }
 {
     let unit = r.unit.0 as usize;
-    put_row(work, g.segs + 4 * j, &[unit, r.count, r.suffix, r.before]);
+    put_row(
+        work,
+        g.segs + 4 * j,
+        &[unit, r.count, r.suffix, word_for(r.before)],
+    );
 }
 
 // Puts the row of new step `k`.
 pub fn put_new_step(work: &mut [u32], g: Layout, k: usize, r: NewStepWords)
-    requires { StepRoom work.old g (k + 1) × (r.node < 4294967296) × (r.mark < 4294967296) }
+    requires { StepRoom work.old g (k + 1) × (r.node < 4294967296) }
     ensures { NewStepPut work.old work.new g k r }
 {
-    put_row(work, g.steps + 2 * k, &[r.node, r.mark]);
+    put_row(work, g.steps + 2 * k, &[r.node, r.mark.sign() as usize]);
 }
 
 // Puts the row of new path `p`.
@@ -133,8 +154,14 @@ pub fn put_new_path(work: &mut [u32], g: Layout, p: PathNo, r: NewPathWords)
 
 // Puts the row of link `i`.
 pub fn put_ends(work: &mut [u32], g: Layout, i: LinkNo, r: Ends)
-    requires { EndsRoom work.old g (i.0 + 1) × (r.from < 4294967296) × (r.to < 4294967296) × (r.gone < 4294967296) }
+    requires { EndsRoom work.old g (i.0 + 1) × (word_of r.from < 4294967296) × (word_of r.to < 4294967296) }
     ensures { EndsPut work.old work.new g i.0 r }
 {
-    put_row(work, g.ends + 3 * i.0 as usize, &[r.from, r.to, r.gone]);
+    let from = word_for(r.from);
+    let to = word_for(r.to);
+    put_row(
+        work,
+        g.ends + 3 * i.0 as usize,
+        &[from, to, usize::from(r.gone)],
+    );
 }

@@ -16,21 +16,22 @@ use Rattle.gfa_spec.proofs.Tests.{by_test}
 use Rattle.gfa_spec.proofs.Splitting.{split_ind, join_split, join_with_cons}
 use Rattle.normalize_spec.specs.Folding.{NewStep}
 use Rattle.normalize_spec.specs.Writing.{step_field, replace, with_steps, path_line}
-use Rattle.scan.specs.declared.places.Field.{Field}
-use Rattle.scan.specs.declared.places.Field.TheVariants.{Found, Missing}
-use Rattle.scan.specs.Places.{part_at, FoundAt, FewFields, FieldIs}
+use Rattle.std.specs.Prelude.{Option, Some, None}
+use Rattle.scan.specs.declared.places.Place.{Place}
+use Rattle.scan.specs.Places.{part_at, bytes_in, FoundAt, FieldIs}
+use Rattle.scan.proofs.Fields.{found_at, few_fields}
 use Rattle.tables.specs.declared.tables.Bases.{Bases}
 use Rattle.tables.specs.declared.tables.Counts.{Counts}
 use Rattle.tables.specs.declared.kinds.PathKind.{PathKind}
 use Rattle.tables.specs.declared.kinds.PathKind.TheVariants as kind
 use Rattle.tables.specs.declared.rows.PathWords.{PathWords}
-use Rattle.tables.specs.declared.rows.Place.{Place}
 use Rattle.tables.specs.Paths.{kind_in, column_of, path_fields}
-use Rattle.tables.specs.ByNumber.{bytes_in, Inside, PathIs}
+use Rattle.tables.specs.ByNumber.{PathIs}
 use Rattle.normalize_tables.specs.declared.layout.Layout.{Layout}
 use Rattle.normalize_tables.specs.NewByNumber.{new_path_no}
-use Rattle.writers.specs.Writers.{Wrote}
-use Rattle.writers.proofs.Writing.{being, ◌▷◌}
+use Rattle.writers.specs.declared.writer.Writer.{Writer}
+use Rattle.writers.specs.Writers.{Puts}
+use Rattle.writers.proofs.Writing.{as_piece, ◌▷◌}
 use Rattle.path_lines.proofs.StepFields.{joined_last}
 use Rattle.path_lines.specs.PathPieces.{fields_in, overlaps_of, path_piece}
 
@@ -149,9 +150,9 @@ module _ {text : List ℕ} {start size k at long : ℕ} (inside : start + size �
   swaps x = split_swaps 9 x start (part start size text)
 
   -- the field is where it was found
-  found_at : (nth k (fields (part_at text start size)) nowhere).at ≡ at
+  found_start : (nth k (fields (part_at text start size)) nowhere).at ≡ at
   unfolding part_at
-  found_at = ap (λ p. p.at) f.field
+  found_start = ap (λ p. p.at) f.field
 
   found_long : length (nth k (fields (part_at text start size)) nowhere).bytes ≡ long
   unfolding part_at
@@ -161,7 +162,7 @@ module _ {text : List ℕ} {start size k at long : ℕ} (inside : start + size �
   found_within : (start ≤ at) × (at + long ≤ start + size)
   found_within =
       let s = swaps [] in
-      (omega (arith, s.low k f.more, found_at), omega (arith, s.high k f.more, found_at, found_long, length_part start size text inside))
+      (omega (arith, s.low k f.more, found_start), omega (arith, s.high k f.more, found_start, found_long, length_part start size text inside))
 
   -- the line with another field there
   line_swapped : (x : List ℕ)
@@ -172,11 +173,7 @@ module _ {text : List ℕ} {start size k at long : ℕ} (inside : start + size �
       let place : start + (at + long - start) ≡ at + long = omega arith in
       let left : size - (at + long - start) ≡ start + size - (at + long) = omega arith in
       (swaps x).one k f.more
-      ∙ rw (found_at, found_long, part_front start size (at - start) text (omega arith), part_rest start size (at + long - start) text (omega arith), place, left)
-
--- a field that was found
-field_found : {text : List ℕ} {start size k at long : ℕ} {f : Field} → FieldIs text start size k f → f ≡ Found at long → FoundAt text start size k at long
-field_found found t = rw t at found.says
+      ∙ rw (found_start, found_long, part_front start size (at - start) text (omega arith), part_rest start size (at + long - start) text (omega arith), place, left)
 
 -- ---- the fields of a path
 
@@ -237,42 +234,32 @@ module _ {text work : List ℕ} {b : Bases} {n : Counts} {p : ℕ} {r : PathWord
   unfolding path_piece path_line
   piece_line names g = rw e.path (ap (λ l. end_line (tabbed l)) (steps_replaced _ _ _))
 
-  module _ {c : ℕ} {f : Field} (ec : c ≡ column_of (kind_at r)) (found : FieldIs text r.line.start r.line.size c f) where
-    -- the field of the steps
-    steps_field : FieldIs text r.line.start r.line.size (column_of (kind_at r)) f
-    steps_field = rw ec at found
-
-    -- a line without it is written as it came
-    few_fields : (names : List (List ℕ)) (g : Layout) → FewFields text r.line.start r.line.size (column_of (kind_at r)) → end_line (bytes_in text r.line) ≡ path_piece names text work b g p
-    few_fields names g q =
+  module _ {c : ℕ} {f : Option Place} (ec : c ≡ column_of (kind_at r)) (found : FieldIs text r.line c f) where
+    -- a line without the field of the steps is written as it came
+    few_kept : (names : List (List ℕ)) (g : Layout) → f ≡ None → end_line (bytes_in text r.line) ≡ path_piece names text work b g p
+    few_kept names g t =
+        let q = few_fields found t in
         sym (piece_line names g
-        ∙ ap end_line (fields_kept _ (fields_in text r.line) (kind_at r) q.few
+        ∙ ap end_line (fields_kept _ (fields_in text r.line) (kind_at r) (rw ec at q.few)
         ∙ (unfold fields part_at in join_split 9 r.line.start (bytes_in text r.line))))
 
-    pub path_missing : (names : List (List ℕ)) (g : Layout) {limit at x : ℕ} {out out' : List ℕ} → f ≡ Missing
-        → Wrote limit out at (end_line (bytes_in text r.line)) out' x → Wrote limit out at (path_piece names text work b g p) out' x
-    path_missing names g t v = being (few_fields names g (rw t at steps_field.says)) v
+    pub path_missing : (names : List (List ℕ)) (g : Layout) {before after : Writer} {line : List ℕ} → f ≡ None → line ≡ bytes_in text r.line → Puts before (end_line line) after
+        → Puts before (path_piece names text work b g p) after
+    path_missing names g t z v = as_piece (ap end_line z ∙ few_kept names g t) v
 
-    module _ {at long : ℕ} (t : f ≡ Found at long) where
+    module _ {s : Place} (t : f ≡ Some s) where
       -- it is in the line
-      path_field : (r.line.start ≤ at) × (at + long ≤ r.line.start + r.line.size) × (column_of (kind_at r) < length (fields_in text r.line))
-      path_field = let q = field_found steps_field t in let w = found_within e.line q in (w.0, w.1, q.more)
+      path_field : (r.line.start ≤ s.start) × (s.start + s.size ≤ r.line.start + r.line.size) × (column_of (kind_at r) < length (fields_in text r.line))
+      path_field = let q = found_at found t in let w = found_within e.line q in (w.0, w.1, rw ec at q.more)
 
-      pub path_low : r.line.start ≤ at
+      pub path_low : r.line.start ≤ s.start
       path_low = path_field.0
 
-      -- what stands before it is a part of the text, and so is it
-      pub path_front : r.line.start + (at - r.line.start) ≤ length text
-      path_front = omega (arith, path_field.0, path_field.1, e.line)
-
-      pub path_high : at + long ≤ length text
-      path_high = omega (arith, path_field.1, e.line)
-
       -- what stands behind it is in the line
-      pub path_behind : r.line.start ≤ at + long
+      pub path_behind : r.line.start ≤ s.start + s.size
       path_behind = omega (arith, path_field.0)
 
-      pub path_end : at + long ≤ r.line.start + r.line.size
+      pub path_end : s.start + s.size ≤ r.line.start + r.line.size
       path_end = path_field.1
 
       -- and the line has the field
@@ -280,46 +267,44 @@ module _ {text work : List ℕ} {b : Bases} {n : Counts} {p : ℕ} {r : PathWord
       path_column = path_field.2
 
       -- the line is written up to that field, with the new one, and with what stands behind it
-      pub path_written : (names : List (List ℕ)) (g : Layout) {limit start x y z : ℕ} {out o q out' : List ℕ} → Wrote limit out start (part r.line.start (at - r.line.start) text) o x
-          → Wrote limit o x (step_field (kind_at r) (new_path_no names work g p)) q y
-          → Wrote limit q y (end_line (part (at + long) (r.line.start + r.line.size - (at + long)) text ++ overlaps_of (kind_at r) (fields_in text r.line))) out' z
-          → Wrote limit out start (path_piece names text work b g p) out' z
+      pub path_put : (names : List (List ℕ)) (g : Layout) {before x y after : Writer} → Puts before (part r.line.start (s.start - r.line.start) text) x
+          → Puts x (step_field (kind_at r) (new_path_no names work g p)) y
+          → Puts y (end_line (part (s.start + s.size) (r.line.start + r.line.size - (s.start + s.size)) text ++ overlaps_of (kind_at r) (fields_in text r.line))) after
+          → Puts before (path_piece names text work b g p) after
       unfolding end_line
-      path_written names g front field rest =
+      path_put names g front field rest =
           let new = step_field (kind_at r) (new_path_no names work g p) in
-          let old = field_found steps_field t in
+          let old : FoundAt text r.line.start r.line.size (column_of (kind_at r)) s.start s.size = rw ec at (found_at found t) in
           let swapped = line_swapped e.line old new in
           let all = fields_swapped new (fields_in text r.line) (kind_at r) old.more in
-          rw (piece_line names g, all, swapped) (being (simp append_assoc) (front ▷ field ▷ rest))
+          rw (piece_line names g, all, swapped) (as_piece (simp append_assoc) (front ▷ field ▷ rest))
 
 -- ---- what stands behind the field of the steps
 
-module _ (text : List ℕ) (line : Place) {limit at r : ℕ} {out out' : List ℕ} where
+module _ (text : List ℕ) (line : Place) {before after : Writer} where
   -- the end of a P line: with overlaps
-  module _ {f : Field} (found : FieldIs text line.start line.size 3 f) where
-    pub overlaps_there : {from long : ℕ} → f ≡ Found from long → Wrote limit out at (10 ∷ []) out' r → Wrote limit out at (end_line (overlaps_of P (fields_in text line))) out' r
+  module _ {f : Option Place} (found : FieldIs text line 3 f) where
+    pub overlaps_there : {s : Place} → f ≡ Some s → Puts before (10 ∷ []) after → Puts before (end_line (overlaps_of P (fields_in text line))) after
     unfolding overlaps_of end_line
     overlaps_there t v =
-        let q = field_found found t in
+        let q = found_at found t in
         rw (ne_eqb (length (fields_in text line)) 3 (λ z. omega (arith, q.more))) v
 
     -- without: they are `*` (42), behind a tab
-    pub overlaps_missing : f ≡ Missing → Inside text line × (2 < length (fields_in text line)) → Wrote limit out at (9 ∷ 42 ∷ 10 ∷ []) out' r
-        → Wrote limit out at (end_line (overlaps_of P (fields_in text line))) out' r
+    pub overlaps_missing : f ≡ None → 2 < length (fields_in text line) → Puts before (9 ∷ 42 ∷ 10 ∷ []) after → Puts before (end_line (overlaps_of P (fields_in text line))) after
     unfolding overlaps_of end_line
     overlaps_missing t h v =
-        let q : FewFields text line.start line.size 3 = rw t at found.says in
+        let q = few_fields found t in
         rw (eq-eqb (length (fields_in text line)) 3 (omega (arith, q.few))) v
 
   -- the rest of a line, by the kind
-  module _ {k : PathKind} (end size : ℕ) {x : ℕ} {o : List ℕ} (rest : Wrote limit out at (part end size text) o x) where
-    pub rest_of_p : k ≡ kind.P → Wrote limit o x (end_line (overlaps_of P (fields_in text line))) out' r
-        → Wrote limit out at (end_line (part end size text ++ overlaps_of (kind_in k) (fields_in text line))) out' r
+  module _ {k : PathKind} (end size : ℕ) {x : Writer} (rest : Puts before (part end size text) x) where
+    pub rest_of_p : k ≡ kind.P → Puts x (end_line (overlaps_of P (fields_in text line))) after
+        → Puts before (end_line (part end size text ++ overlaps_of (kind_in k) (fields_in text line))) after
     unfolding end_line
     rest_of_p e v = rw (e, append_assoc) (rest ▷ v)
 
-    pub rest_of_w : k ≡ kind.W → Wrote limit o x (10 ∷ []) out' r
-        → Wrote limit out at (end_line (part end size text ++ overlaps_of (kind_in k) (fields_in text line))) out' r
+    pub rest_of_w : k ≡ kind.W → Puts x (10 ∷ []) after → Puts before (end_line (part end size text ++ overlaps_of (kind_in k) (fields_in text line))) after
     unfolding end_line overlaps_of
     rest_of_w e v = rw (e, append-nil) (rest ▷ v)
 

@@ -1,19 +1,20 @@
 -- The field of a path's new steps, step by step. Assumes nothing.
 use Prim.Native.Nat.{ℕ, zero, suc, ◌+◌, ◌-◌, ◌<◌}
 use native.Mathlib.Omega.{arith}
-use mathlib.Core.Bool.{true, false, cond}
+use mathlib.Core.Bool.{false, cond}
 use mathlib.Core.List.{List, [], ◌∷◌, ◌++◌, map, map-append, append_assoc}
 use mathlib.Core.Path.{◌≡◌, refl, sym, ◌∙◌}
 use lib.Dec.{eqb}
 use lib.ListN.{length, length-map}
-use borrow.Author.Tests.{eq-eqb, ne_eqb}
+use borrow.Author.Tests.{ne_eqb}
 use Rattle.gfa_spec.specs.Bytes.{nth, star, is_empty, join, join_with}
-use Rattle.gfa_spec.specs.Reading.{Kind, P, W, is_orientation}
-use Rattle.gfa_spec.proofs.Steps.{by_orientation}
+use Rattle.gfa_spec.specs.Reading.{Kind, P, W}
 use Rattle.normalize_spec.specs.Folding.{NewStep}
 use Rattle.normalize_spec.specs.Writing.{p_token, w_token, step_field}
-use Rattle.writers.specs.Writers.{Wrote, pieces_to}
-use Rattle.writers.proofs.Writing.{being, ◌▷◌}
+use Rattle.scan.specs.Orientations.{sign_of}
+use Rattle.writers.specs.declared.writer.Writer.{Writer}
+use Rattle.writers.specs.Writers.{Puts, pieces_to}
+use Rattle.writers.proofs.Writing.{as_piece, ◌▷◌}
 use Rattle.writers.proofs.Joining.{join_last, joined_first, led_last}
 use Rattle.tables.specs.declared.kinds.PathKind.{PathKind}
 use Rattle.tables.specs.declared.kinds.PathKind.TheVariants as kind
@@ -27,10 +28,6 @@ use Rattle.normalize_tables.specs.NewByNumber.{new_step_no, new_steps_from, new_
 use Rattle.normalize_tables.proofs.NewByNumber.{new_steps_next, new_steps_none, new_steps_split}
 use Rattle.path_lines.specs.PathPieces.{token_of, token_piece}
 use Rattle.writers.proofs.Rowing.{grown, table_length}
-
--- an orientation is + or -
-pub orientation_minus : (o : ℕ) → is_orientation o ≡ true → (o ≡ 43 → ⊥) → 45 ≡ o
-orientation_minus o h k = by_orientation (λ o. (o ≡ 43 → ⊥) → 45 ≡ o) (λ d. absurd (d refl)) (λ d. refl) o h k
 
 -- one item more behind others
 pub joined_last : (b : ℕ) (xs : List (List ℕ)) (y : List ℕ) → 0 < length xs → join_with b (xs ++ (y ∷ [])) ≡ join_with b xs ++ (b ∷ y)
@@ -94,13 +91,13 @@ unfolding step_field
 some_field P names w g first n h = rw (some_there (steps_of names w g first n) (λ z. h (sym (steps_length names w g first n) ∙ z))) (sym (commas names w g first n))
 some_field W names w g first n h = rw (some_there (steps_of names w g first n) (λ z. h (sym (steps_length names w g first n) ∙ z))) (sym (marks names w g first n))
 
-module _ (k : Kind) (names : List (List ℕ)) {work : List ℕ} {n : Counts} {g : Layout} {m : Made} {p limit at x : ℕ} {out out' : List ℕ} {r : NewPathWords} (q : NewPathIs work n g m p r) where
-  pub none_written : r.first ≡ r.end → Wrote limit out at (42 ∷ []) out' x → Wrote limit out at (step_field k (new_path_no names work g p)) out' x
-  none_written e v = rw (q.path names, new_steps_none names work g r.first r.end (omega arith), ← none_field k) v
+module _ (k : Kind) (names : List (List ℕ)) {work : List ℕ} {n : Counts} {g : Layout} {m : Made} {p : ℕ} {before after : Writer} {r : NewPathWords} (q : NewPathIs work n g m p r) where
+  pub none_put : r.first ≡ r.end → Puts before (42 ∷ []) after → Puts before (step_field k (new_path_no names work g p)) after
+  none_put e v = rw (q.path names, new_steps_none names work g r.first r.end (omega arith), ← none_field k) v
 
-  pub steps_written : (r.first ≡ r.end → ⊥) → Wrote limit out at (pieces_to (token_piece k names work g r.first) (r.end - r.first)) out' x
-      → Wrote limit out at (step_field k (new_path_no names work g p)) out' x
-  steps_written h v =
+  pub steps_put : (r.first ≡ r.end → ⊥) → Puts before (pieces_to (token_piece k names work g r.first) (r.end - r.first)) after
+      → Puts before (step_field k (new_path_no names work g p)) after
+  steps_put h v =
       let size = r.end - r.first in
       let some-steps : size ≡ 0 → ⊥ = λ z. h (omega (arith, q.low)) in
       let end : r.first + size ≡ r.end = omega (arith, q.low) in
@@ -108,33 +105,25 @@ module _ (k : Kind) (names : List (List ℕ)) {work : List ℕ} {n : Counts} {g 
 
 -- ---- a step
 
--- the comma before it, but before the first
-module _ (k : ℕ) {limit at r : ℕ} {out out' : List ℕ} where
-  pub comma_none : k ≡ 0 → Wrote limit out at [] out' r → Wrote limit out at (cond (eqb k 0) [] (44 ∷ [])) out' r
-  comma_none e v = rw (eq-eqb k 0 e) v
-
-  pub comma_some : (k ≡ 0 → ⊥) → Wrote limit out at (44 ∷ []) out' r → Wrote limit out at (cond (eqb k 0) [] (44 ∷ [])) out' r
-  comma_some e v = rw (ne_eqb k 0 e) v
-
-module _ (names : List (List ℕ)) (s : NewStepWords) (k : ℕ) {limit at r : ℕ} {out out' : List ℕ} where
+module _ (names : List (List ℕ)) (s : NewStepWords) (k : ℕ) {before after : Writer} where
   -- of a P line
-  pub token_p : {sign x y : ℕ} {o p : List ℕ} → sign ≡ s.mark → Wrote limit out at (cond (eqb k 0) [] (44 ∷ [])) o x → Wrote limit o x (nth s.node names []) p y
-      → Wrote limit p y (sign ∷ []) out' r → Wrote limit out at (token_of P k (step_in names s)) out' r
+  pub token_p : {sign : ℕ} {x y : Writer} → sign ≡ sign_of s.mark → Puts before (cond (eqb k 0) [] (44 ∷ [])) x → Puts x (nth s.node names []) y
+      → Puts y (sign ∷ []) after → Puts before (token_of P k (step_in names s)) after
   unfolding token_of p_token
-  token_p e comma name end = rw (← e) (being (simp append_assoc) (comma ▷ name ▷ end))
+  token_p e comma name end = rw (← e) (as_piece (simp append_assoc) (comma ▷ name ▷ end))
 
   -- of a W line
-  pub token_w : {mark x : ℕ} {o : List ℕ} → mark ≡ cond (eqb s.mark 43) 62 60 → Wrote limit out at (mark ∷ []) o x → Wrote limit o x (nth s.node names []) out' r
-      → Wrote limit out at (token_of W k (step_in names s)) out' r
+  pub token_w : {mark : ℕ} {x : Writer} → mark ≡ cond (eqb (sign_of s.mark) 43) 62 60 → Puts before (mark ∷ []) x → Puts x (nth s.node names []) after
+      → Puts before (token_of W k (step_in names s)) after
   unfolding token_of w_token
   token_w e mark name = rw (← e) (mark ▷ name)
 
   -- of those from step `first` on, by the kind
   module _ {work : List ℕ} {n : Counts} {g : Layout} {m : Made} (first : ℕ) {t : PathKind} (q : NewStepIs work n g m (first + k) s) where
-    pub token_of_p : t ≡ kind.P → Wrote limit out at (token_of P k (step_in names s)) out' r → Wrote limit out at (token_piece (kind_in t) names work g first k) out' r
+    pub token_of_p : t ≡ kind.P → Puts before (token_of P k (step_in names s)) after → Puts before (token_piece (kind_in t) names work g first k) after
     unfolding token_piece
     token_of_p e v = rw (e, q.step names) v
 
-    pub token_of_w : t ≡ kind.W → Wrote limit out at (token_of W k (step_in names s)) out' r → Wrote limit out at (token_piece (kind_in t) names work g first k) out' r
+    pub token_of_w : t ≡ kind.W → Puts before (token_of W k (step_in names s)) after → Puts before (token_piece (kind_in t) names work g first k) after
     unfolding token_piece
     token_of_w e v = rw (e, q.step names) v

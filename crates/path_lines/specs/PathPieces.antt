@@ -4,10 +4,10 @@ use Rattle.gfa_spec.specs.Bytes.{Part, end_line}
 use Rattle.gfa_spec.specs.Reading.{Kind, P, W, fields}
 use Rattle.normalize_spec.specs.Folding.{NewStep}
 use Rattle.normalize_spec.specs.Writing.{p_token, w_token, path_line}
+use Rattle.scan.specs.declared.places.Place.{Place}
 use Rattle.scan.specs.Places.{part_at}
 use Rattle.tables.specs.declared.tables.Bases.{Bases}
 use Rattle.tables.specs.declared.tables.Counts.{Counts}
-use Rattle.tables.specs.declared.rows.Place.{Place}
 use Rattle.tables.specs.ByNumber.{path_no}
 use Rattle.normalize_tables.specs.declared.layout.Layout.{Layout}
 use Rattle.normalize_tables.specs.declared.layout.Made.{Made}

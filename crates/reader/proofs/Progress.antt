@@ -1,7 +1,13 @@
 -- The reader's state between two lines, and how it goes on. Assumes nothing.
+use Rattle.std.specs.Prelude.{Result, Ok, Err}
+use Rattle.refusals.specs.declared.refusal.Refusal.{Refusal}
+use Rattle.refusals.specs.declared.reason.Reason.{Reason}
+use Rattle.gfa_spec.specs.Calls as calls
+use Rattle.gfa_spec.specs.Calls.{on_line, of_parsed}
+use Rattle.refusals.specs.Reasons.{number_of}
+use Rattle.refusals.specs.Refusals.{stated}
 use Prim.Native.Nat.{ℕ, suc, ◌+◌, ◌*◌, ◌≤◌, ◌<◌}
 use native.Mathlib.Decide.{dec_lt}
-use native.Mathlib.Numerals.{add-one}
 use native.Mathlib.Omega.{arith}
 use mathlib.Core.List.{List, [], ◌∷◌, ◌++◌, append-nil}
 use mathlib.Core.Path.{◌≡◌, refl, ap, sym, ◌∙◌}
@@ -10,9 +16,6 @@ use Rattle.tables.specs.declared.entry.Record.{Record}
 use Rattle.tables.specs.declared.entry.Record.TheVariants.{Segment, Link, Path, Header, Comment, Blank, Other}
 use Rattle.tables.specs.declared.tables.Bases.{Bases}
 use Rattle.tables.specs.declared.tables.Counts.{Counts}
-use Rattle.lines.specs.declared.added.Added.{Added}
-use Rattle.lines.specs.declared.added.Added.TheVariants.{Rows, Refused}
-use Rattle.reader.specs.declared.reading.Outcome.TheVariants as outcome
 use Rattle.gfa_spec.specs.Bytes.{one, nil, sum}
 use Rattle.gfa_spec.specs.Reading.{Entry, choose, lines, parse, parse_lines}
 use Rattle.gfa_spec.specs.Records.{segments, links, paths, collect}
@@ -220,7 +223,7 @@ module _ {text first : List ℕ} {b : Bases} where
         let y = p.roomy in
         omega (arith, y.apart, y.between, y.beyond, y.behind, y.room, p.left_lines, p.left_segs, p.left_links, p.left_paths, p.left_spare, p.long)
 
-    pub progress_end : length text ≤ at → OutcomeIs text first work b (outcome.Read n)
+    pub progress_end : length text ≤ at → OutcomeIs text first work b (Ok n)
     unfolding parse_lines
     progress_end h =
         let e : at ≡ length text = omega (arith, p.high) in
@@ -262,13 +265,15 @@ module _ {text first : List ℕ} {b : Bases} where
             rows = p.sound.segs;
           }
 
-      module _ {work' : List ℕ} {a : Added} (r : LineRead text work work' b n start size a) where
-        pub progress_refused : {k : ℕ} → a ≡ Refused k → OutcomeIs text first work' b (outcome.Refused k (n.lines + 1))
-        progress_refused {k} e =
+      module _ {work' : List ℕ} {a : Result (Record × Counts) Reason} (r : LineRead text work work' b n start size a) where
+        pub progress_refused : {k : Reason} {q : Refusal} → a ≡ Err k → stated q ≡ on_line (number_of k) (n.lines + 1) → OutcomeIs text first work' b (Err q)
+        unfolding of_parsed
+        progress_refused {k} e s =
             let z = rw e at r.says in
-            record { says = record { read = p.whole ∙ rw (l.first, parse_refused (suc n.lines) _ _ _ k z.read, follow_refused, add-one) } }
+            let line : suc n.lines ≡ n.lines + 1 = omega arith in
+            record { says = rw (p.whole, l.first, parse_refused (suc n.lines) _ _ _ (number_of k) z.read, follow_refused, line) (ap calls.Input.refusal (sym s)) }
 
-        pub progress_more : {held : Record} {m : Counts} → a ≡ Rows held m → Progress text first work' b next m
+        pub progress_more : {held : Record} {m : Counts} → a ≡ Ok (held, m) → Progress text first work' b next m
         unfolding total part_at
         progress_more {held} {m} e =
             let z = rw e at r.says in

@@ -1,10 +1,13 @@
 -- What the reader does with all lines of a text. Document 01, the refusals 5 to 17 in text order.
+use Rattle.std.specs.Prelude.{Result, Ok, Err}
+use Rattle.refusals.specs.declared.refusal.Refusal.{Refusal}
+use Rattle.refusals.specs.Refusals.{stated}
 use Rattle.std.specs.Prelude.{ℕ, ◌+◌, ◌*◌, ◌≤◌, List, ◌≡◌, length}
 use Rattle.tables.specs.declared.tables.Bases.{Bases}
 use Rattle.tables.specs.declared.tables.Counts.{Counts}
-use Rattle.reader.specs.declared.reading.Outcome.{Outcome}
-use Rattle.reader.specs.declared.reading.Outcome.TheVariants as outcome
-use Rattle.gfa_spec.specs.Reading.{lines, refused_at, parsed, parse}
+use Rattle.gfa_spec.specs.Reading.{lines, parsed, parse}
+use Rattle.gfa_spec.specs.Calls as calls
+use Rattle.gfa_spec.specs.Calls.{of_parsed}
 use Rattle.tables.specs.Entries.{entries_at}
 use Rattle.lines.specs.Room.{segs_in, links_in, paths_in, spare_in, total}
 use Rattle.tables.specs.Tables.{Tables}
@@ -23,15 +26,11 @@ pub record TextRead (text before work : List ℕ) (b : Bases) (n : Counts) : Typ
   pub read : parse text ≡ parsed (entries_at text work b n.lines)
   pub tables : Tables text before work b n
 
--- The text is refused with this number, at this line.
-pub record TextRefused (text : List ℕ) (k line : ℕ) : Type 0 where
-  pub read : parse text ≡ refused_at k line
-
 -- by the cases of the answer
-abbrev pub OutcomeSays : List ℕ → List ℕ → List ℕ → Bases → Outcome → Type 0
-OutcomeSays text before work b (outcome.Read n) = TextRead text before work b n
-OutcomeSays text before work b (outcome.Refused k line) = TextRefused text k line
+abbrev pub OutcomeSays : List ℕ → List ℕ → List ℕ → Bases → Result Counts Refusal → Type 0
+OutcomeSays text before work b (Ok n) = TextRead text before work b n
+OutcomeSays text before work b (Err r) = of_parsed (parse text) ≡ calls.Input.refusal (stated r)
 
--- What the answer to all lines says.
-pub record OutcomeIs (text before work : List ℕ) (b : Bases) (r : Outcome) : Type 0 where
+-- What the answer to all lines says: the tables, or the first refusal of 5 to 17.
+pub record OutcomeIs (text before work : List ℕ) (b : Bases) (r : Result Counts Refusal) : Type 0 where
   pub says : OutcomeSays text before work b r

@@ -1,8 +1,9 @@
 -- What every call returns and leaves behind. Document 01, "Refused calls".
+use Rattle.std.specs.Prelude.{Result, Ok, Err}
+use Rattle.refusals.specs.declared.refusal.Refusal.{Refusal}
+use Rattle.refusals.specs.Reasons.{number_of}
 use Rattle.std.specs.Prelude.{ℕ, List, ◌++◌, ◌≡◌, length, drop, replicate}
 use Rattle.reader.specs.declared.answers.Answer.{Answer}
-use Rattle.reader.specs.declared.input.Input.{Input}
-use Rattle.reader.specs.declared.input.Input.TheVariants as input
 use Rattle.gfa_spec.specs.Calls.{Outcome, answer}
 
 -- the four fields of an answer: a refusal's, or number 0 and the bytes written
@@ -26,7 +27,7 @@ pub record Served (out out' : List ℕ) (size : ℕ) (work' : List ℕ) (r : Ans
   pub output : out' ≡ output_of out o
   pub cleared : work' ≡ replicate size 0
 
--- the refusal of a text that the reader answers
-abbrev pub refused_with : Input → Answer
-refused_with (input.Tables b n) = record { number = 0; line = 0; from = 0; length = 0 }
-refused_with (input.Refused r) = r
+-- the answer of a call that wrote so many bytes, or was refused
+abbrev pub answer_in : Result ℕ Refusal → Answer
+answer_in (Ok n) = record { number = 0; line = 0; from = 0; length = n }
+answer_in (Err r) = record { number = number_of r.reason; line = r.line; from = r.from; length = r.length }

@@ -1,7 +1,7 @@
 // What every call answers (document 01, "Refused calls").
-ghost use Rattle.std.specs.Prelude.{◌≡◌, length};
+use refusals::refusal::Refusal;
 
-// What every call answers: number 0 is acceptance, its length the bytes written; a field not named is 0 (document 01, "Refused calls").
+// Number 0 is acceptance, its length the bytes written; a field not named is 0.
 #[repr(C)]
 #[derive(Clone, Copy)]
 pub struct Answer {
@@ -11,14 +11,27 @@ pub struct Answer {
     pub length: usize,
 }
 
-// An answer that names no line and no place.
-pub fn plain(number: usize, length: usize) -> Answer
-    ensures { result ≡ record { number = number; line = 0; from = 0; length = length } }
-{
-    Answer {
-        number,
-        line: 0,
-        from: 0,
-        length,
+// The answer of a call that wrote so many bytes, or was refused.
+impl From<Result<usize, Refusal>> for Answer {
+    ghost use Rattle.std.specs.Prelude.{◌≡◌};
+    ghost use Rattle.reader.specs.Served.{answer_in};
+
+    ghost from_gives = { λ o r. r ≡ answer_in o };
+
+    fn from(outcome: Result<usize, Refusal>) -> Answer {
+        match outcome {
+            Ok(length) => Answer {
+                number: 0,
+                line: 0,
+                from: 0,
+                length,
+            },
+            Err(r) => Answer {
+                number: r.reason.number(),
+                line: r.line,
+                from: r.from,
+                length: r.length,
+            },
+        }
     }
 }

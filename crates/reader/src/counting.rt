@@ -1,25 +1,26 @@
 // The counting pass: at most how many lines, segments, links and paths a text has.
-ghost use Rattle.std.specs.Prelude.{◌+◌, ◌≤◌, length};
+ghost use Rattle.std.specs.Prelude.{◌≤◌, length};
 ghost use Rattle.gfa_spec.specs.Reading.{lines};
+ghost use Rattle.scan.specs.Places.{Inside};
 ghost use Rattle.tables.specs.Tables.{Few};
-ghost use Rattle.lines.specs.Room.{TallyIs, LineTally};
+ghost use Rattle.lines.specs.Room.{LineTally, TallyIs};
 
-use scan::places::next_line;
+use scan::places::{Place, next_line};
 use tables::tables::{Counts, one_more};
 
-// The counts with those of the line that starts at `start`.
-pub fn count_line(text: &[u8], n: Counts, start: usize, size: usize) -> Counts
-    requires { (start + size ≤ length text.now) × Few n }
-    ensures { LineTally text.now start size n result }
+// The counts with those of a line.
+pub fn count_line(text: &[u8], n: Counts, line: Place) -> Counts
+    requires inside { Inside text.now line }
+    requires few { Few n }
+    ensures { LineTally text.now line.start line.size n result }
 {
-    if size < 2 {
+    if line.size < 2 {
         return one_more(n, 0, 0, 0, 0);
     }
-    let first = text[start];
-    match first {
-        83 => one_more(n, 1, 0, 0, 0),
-        76 => one_more(n, 0, 1, 0, 0),
-        80 | 87 => one_more(n, 0, 0, 1, 0),
+    match text[line.start] {
+        b'S' => one_more(n, 1, 0, 0, 0),
+        b'L' => one_more(n, 0, 1, 0, 0),
+        b'P' | b'W' => one_more(n, 0, 0, 1, 0),
         _ => one_more(n, 0, 0, 0, 0),
     }
 }
@@ -37,9 +38,10 @@ pub fn count_text(text: &[u8]) -> Counts
         paths: 0,
         steps: 0,
     };
+    // From line to line.
     while at < text.len() {
         let line = next_line(text, at);
-        n = count_line(text, n, line.start, line.length);
+        n = count_line(text, n, line.place);
         at = line.next;
     }
     n

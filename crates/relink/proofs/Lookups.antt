@@ -1,16 +1,21 @@
 -- The search for a link of the four parts of a pair. Assumes nothing.
 use Prim.Native.Nat.{ℕ, ◌+◌, ◌*◌, ◌-◌, ◌≤◌, ◌<◌}
-use native.Mathlib.Numerals.{add-one}
 use native.Mathlib.Omega.{arith}
 use mathlib.Core.Bool.{Bool, true, false, not, ◌&&◌, ◌||◌}
 use mathlib.Core.List.{List, ◌∷◌, ◌++◌, map}
+use Rattle.std.specs.Prelude.{Option, Some}
+use Rattle.std.specs.Option.{option_eq}
 use mathlib.Core.Path.{◌≡◌, refl, sym, ◌∙◌}
 use lib.Dec.{eqb}
+use denote.Enum.Bare.{sameb}
+use Rattle.scan.specs.contracts.orientation.Orientation.{the_type}
+use Rattle.scan.specs.declared.orientation.Orientation.{Orientation}
+use Rattle.scan.specs.Orientations.{sign_of}
+use Rattle.scan.proofs.Orientations.{eq_signs}
 use lib.ListN.{length, get_or}
-use borrow.Author.Tests.{eq-eqb, ne_eqb, not-true, not-false}
+use borrow.Author.Tests.{not-true, not-false}
 use Rattle.gfa_spec.specs.Bytes.{any, keep, distinct}
 use Rattle.gfa_spec.specs.Reading.{Segment, Link}
-use Rattle.gfa_spec.specs.Runs.{bit}
 use Rattle.gfa_spec.proofs.Tests.{by_test, any_append}
 use Rattle.normalize_spec.specs.Folding.{same_new_node, same_new_step}
 use Rattle.normalize_spec.specs.Links.{Key, is_removed, same_key, key_of}
@@ -26,12 +31,12 @@ use Rattle.normalize_tables.specs.declared.rows.NewStepWords.{NewStepWords}
 use Rattle.normalize_tables.specs.News.{place_of, key_at, keys_at}
 use Rattle.normalize_tables.specs.NewByNumber.{step_is, step_in, ends_no}
 use Rattle.normalize_tables.proofs.Nodes.{same_place}
+use Rattle.normalize_tables.proofs.NewByNumber.{eq_steps}
 use Rattle.normalize_tables.specs.declared.rows.Ends.{Ends}
 use Rattle.relink.specs.declared.lookup.Pair.{Pair}
 use Rattle.relink.specs.Relinking.{AddedRows, Ended, pair_no, key_in, PairIs, PairThere, kept_keys, pair_is, nodes_are, marks_are, LinkMatch, KeptIs, AddedMatch, LinkFound}
 use Rattle.link_ends.specs.LinkEnds.{Relinkable}
 use Rattle.link_ends.proofs.Places.{place_says}
-use Rattle.work.specs.Rows.{word_of}
 
 -- ---- words and steps
 
@@ -41,11 +46,11 @@ module _ (names : List (List ℕ)) (d : distinct names ≡ true) where
   unfolding same_new_step same_new_node
   step_says s t l h = rw (same_place names s.node t.node d l h)
 
-  -- a new step is the end of a link exactly if its words are
-  end_says : (s : NewStepWords) (node mark : ℕ) (name : List ℕ) → s.node < length names → node ≡ word_of (place_of names name)
-      → (eqb (s.node + 1) node && eqb s.mark mark) ≡ same_new_step (step_in names s) (record { name = name; orientation = mark })
+  -- a new step is the end of a link exactly if its node has the place of the end's name, and the orientation is the same
+  end_says : (s : NewStepWords) (place : Option ℕ) (mark : ℕ) (name : List ℕ) → s.node < length names → place ≡ place_of names name
+      → (option_eq eqb place (Some s.node) && eqb (sign_of s.mark) mark) ≡ same_new_step (step_in names s) (record { name = name; orientation = mark })
   unfolding same_new_step same_new_node
-  end_says s node mark name l e = rw (place_says names name s.node d l, e, add-one)
+  end_says s place mark name l e = rw (place_says names name s.node d l, e)
 
   -- pairs are equal exactly if their words are
   pair_says : (p q : Pair) → (p.first.node < length names) × (p.second.node < length names) → (q.first.node < length names) × (q.second.node < length names)
@@ -53,13 +58,21 @@ module _ (names : List (List ℕ)) (d : distinct names ≡ true) where
   unfolding same_key
   pair_says p q l h = rw (step_says p.first q.first l.0 h.0, step_says p.second q.second l.1 h.1)
 
+-- what `==` says of two pairs
+abbrev pub pair_eq : Pair → Pair → Bool
+pair_eq p q =
+    (eqb p.first.node q.first.node && sameb the_type p.first.mark q.first.mark)
+    && (eqb p.second.node q.second.node && sameb the_type p.second.mark q.second.mark)
+
+-- pairs are equal where their words are
+pub eq_pairs : (p q : Pair) → pair_eq p q ≡ pair_is p q
+eq_pairs p q = rw (eq_steps p.first q.first, eq_steps p.second q.second)
+
+-- orientations are those of a pair exactly if their signs are
+pub marks_same : (p : Pair) (leaves enters : Orientation) → (sameb the_type p.first.mark leaves && sameb the_type p.second.mark enters) ≡ marks_are p leaves enters
+marks_same p leaves enters = rw (eq_signs p.first.mark leaves, eq_signs p.second.mark enters)
+
 -- two tests, one behind the other: the first fails, or the second decides
-pub test_first : {x y : ℕ} (t : Bool) → (x ≡ y → ⊥) → ◌≡◌ {A = Bool} false (eqb x y && t)
-test_first {x} {y} t h = rw (ne_eqb x y h)
-
-pub test_second : {x y : ℕ} {t : Bool} → x ≡ y → t ≡ (eqb x y && t)
-test_second {x} {y} h = rw (eq-eqb x y h)
-
 pub pair_first : {r s : Bool} (t : Bool) → r ≡ s → not r ≡ true → ◌≡◌ {A = Bool} false (s && t)
 pair_first {r} t e h = rw (← e, not-true r h)
 
@@ -71,11 +84,6 @@ pub pair_key : {work : List ℕ} {n : Counts} {g : Layout} {m : Made} {step : �
 pair_key q names = rw (q.first.step names, q.second.step names)
 
 -- ---- a link
-
-bit_clear : (t : Bool) → eqb (bit t) 0 ≡ not t
-unfolding bit
-bit_clear true = refl
-bit_clear false = refl
 
 -- four tests in another order
 regroup : (x y z t : Bool) → ((x && z) && (y && t)) ≡ ((x && y) && (z && t))
@@ -90,23 +98,23 @@ module _ {text work : List ℕ} {b : Bases} {n : Counts} {g : Layout} {m : Made}
   abbrev here : Link
   here = link_no text work b i
 
-  -- its mark says whether it is removed
-  match_gone : (names : List (List ℕ)) (fs : List Segment) → Ended text names fs work b n g m → eqb e.gone 0 ≡ not (is_removed fs here)
-  match_gone names fs d = rw (f, (d.ends i s.2).gone, bit_clear)
+  -- its row says whether it is removed
+  match_gone : (names : List (List ℕ)) (fs : List Segment) → Ended text names fs work b n g m → e.gone ≡ is_removed fs here
+  match_gone names fs d = rw (f, (d.ends i s.2).gone)
 
-  pub match_removed : (e.gone ≡ 0 → ⊥) → LinkMatch text work b n g m p i false
-  match_removed h = record { answer = λ names fs d. rw (← match_gone names fs d, ne_eqb e.gone 0 h) }
+  pub match_removed : e.gone ≡ true → LinkMatch text work b n g m p i false
+  match_removed h = record { answer = λ names fs d. rw (← match_gone names fs d, h) }
 
-  module _ (h : e.gone ≡ 0) where
+  module _ (h : e.gone ≡ false) where
     -- nodes and orientations say whether it has the parts
     match_all : (names : List (List ℕ)) (fs : List Segment) → Ended text names fs work b n g m
-        → (nodes_are p e && marks_are p here.from_orientation here.to_orientation) ≡ (not (is_removed fs here) && same_key (key_in names p) (key_of here))
+        → (nodes_are p e && (eqb (sign_of p.first.mark) here.from_orientation && eqb (sign_of p.second.mark) here.to_orientation)) ≡ (not (is_removed fs here) && same_key (key_in names p) (key_of here))
     unfolding same_key key_of
     match_all names fs d =
         let row = d.ends i s.2 in
         let from = end_says names d.apart p.first e.from here.from_orientation here.from (omega (arith, s.1, d.all)) (rw f row.from) in
         let to = end_says names d.apart p.second e.to here.to_orientation here.to (omega (arith, s.1, d.all)) (rw f row.to) in
-        rw (← match_gone names fs d, eq-eqb e.gone 0 h, ← from, ← to) (regroup (eqb (p.first.node + 1) e.from) (eqb p.first.mark here.from_orientation) _ _)
+        rw (← match_gone names fs d, h, ← from, ← to) (regroup (option_eq eqb e.from (Some p.first.node)) (eqb (sign_of p.first.mark) here.from_orientation) _ _)
 
     module _ {r : Bool} (q : r ≡ nodes_are p e) where
       pub match_nodes : not r ≡ true → LinkMatch text work b n g m p i false
@@ -114,6 +122,8 @@ module _ {text work : List ℕ} {b : Bases} {n : Counts} {g : Layout} {m : Made}
 
       pub match_marks : {u : Bool} {l : LinkWords} → not r ≡ false → LinkIs text work b i l → u ≡ marks_are p l.leaves l.enters → LinkMatch text work b n g m p i u
       match_marks z k t = record { answer = λ names fs d. pair_second q z (t ∙ rw k.link) ∙ match_all names fs d }
+
+pub ruleset matching = (match_removed, match_nodes, match_marks)
 
 -- ---- kept links
 
@@ -151,6 +161,8 @@ module _ {text work : List ℕ} {b : Bases} {n : Counts} {g : Layout} {m : Made}
     unfolding keep any
     seeking_end h = record { answer = λ names fs e. sym (s.left names fs e ∙ rw (links_none text work b n i h)) }
 
+pub ruleset seeking = (seeking_start, seeking_hit, seeking_more, seeking_end)
+
 -- ---- added links
 
 -- The state at added link i: none before it has the parts of the pair.
@@ -174,7 +186,7 @@ module _ {text work : List ℕ} {b : Bases} {n : Counts} {g : Layout} {m : Made}
       record { relinkable = h.0; rows = h.1; there = h.2; high = omega arith; left = λ names d l. rw (← rows_all (key_at names g.steps) 1 work g.added added) }
 
   module _ {i : ℕ} (s : Comparing text work b n g m added p i) where
-    module _ {t : ℕ} {other : Pair} {r : Bool} (h : i < added) (e : t ≡ get_or work (g.added + i) 0) (o : PairIs work n g m t other) (q : r ≡ pair_is p other) where
+    module _ {t : ℕ} {other : Pair} {r : Bool} (h : i < added) (e : t ≡ get_or work (g.added + i) 0) (o : PairIs work n g m t other) (q : r ≡ pair_eq p other) where
       first_added : (names : List (List ℕ)) → distinct names ≡ true → length names ≡ n.segs + m.segs
           → any (same_key (key_in names p)) (keys_at names g.steps work g.added added)
           ≡ (r || any (same_key (key_in names p)) (keys_at names g.steps work (g.added + 1 * (i + 1)) (added - (i + 1))))
@@ -182,7 +194,7 @@ module _ {text work : List ℕ} {b : Bases} {n : Counts} {g : Layout} {m : Made}
       first_added names d l =
           let z : g.added + 1 * i ≡ g.added + i = omega arith in
           let says = pair_says names d p other (omega arith, omega arith) (omega arith, omega arith) in
-          s.left names d l ∙ rw (rows_cons (key_at names g.steps) 1 work g.added added i h, z, ← e, pair_key o names, ← says, ← q)
+          s.left names d l ∙ rw (rows_cons (key_at names g.steps) 1 work g.added added i h, z, ← e, pair_key o names, ← says, ← eq_pairs p other, ← q)
 
       pub comparing_more : r ≡ false → Comparing text work b n g m added p (i + 1)
       comparing_more f =
@@ -194,6 +206,8 @@ module _ {text work : List ℕ} {b : Bases} {n : Counts} {g : Layout} {m : Made}
     pub comparing_end : added ≤ i → AddedMatch work n g m added p false
     unfolding keys_at any
     comparing_end h = record { answer = λ names d l. sym (s.left names d l ∙ rw (rows_none (key_at names g.steps) 1 work g.added added i h)) }
+
+pub ruleset comparing = (comparing_start, comparing_hit, comparing_more, comparing_end)
 
 -- ---- both
 

@@ -1,10 +1,14 @@
 -- The links that are kept, and those that are added. Document 01, "Folding", rule 6.
 use Rattle.std.specs.Prelude.{ℕ, ◌+◌, ◌-◌, ◌≤◌, ◌<◌, Bool, true, cond, not, ◌&&◌, List, [], ◌∷◌, ◌++◌, map, ◌≡◌, eqb, length}
+use Rattle.std.specs.Prelude.{Some}
+use Rattle.std.specs.Option.{option_eq}
 use Rattle.gfa_spec.specs.Bytes.{any, count, keep, join, distinct}
 use Rattle.gfa_spec.specs.Reading.{Segment}
 use Rattle.gfa_spec.specs.Records.{is_self_link}
 use Rattle.normalize_spec.specs.Folding.{same_new_node}
 use Rattle.normalize_spec.specs.Links.{Key, is_removed, same_key, key_of, adjacent, missing}
+use Rattle.scan.specs.declared.orientation.Orientation.{Orientation}
+use Rattle.scan.specs.Orientations.{sign_of}
 use Rattle.work.specs.Rows.{EachRow, span, Only}
 use Rattle.tables.specs.declared.tables.Bases.{Bases}
 use Rattle.tables.specs.declared.tables.Counts.{Counts}
@@ -48,25 +52,25 @@ pub record PairIs (work : List ℕ) (n : Counts) (g : Layout) (m : Made) (step :
   pub second : NewStepIs work n g m (step + 1) p.second
   pub few : n.segs + m.segs < 4294967296
 
--- A pair of nodes, of which there are not many.
+-- A pair of nodes that there are.
 abbrev pub PairThere : Counts → Made → Pair → Type 0
-PairThere n m p = (p.first.node < n.segs + m.segs) × (p.second.node < n.segs + m.segs) × (n.segs + m.segs < 4294967296)
+PairThere n m p = (p.first.node < n.segs + m.segs) × (p.second.node < n.segs + m.segs)
 
 -- the kept links of the text, by their four parts
 abbrev pub kept_keys : List ℕ → List Segment → List ℕ → Bases → ℕ → List Key
 kept_keys text fs work b i = map key_of (keep (λ l. not (is_removed fs l)) (links_to text work b i))
 
--- two pairs have the same words
+-- two pairs have the same words: what `==` says of them, by `eq_pairs` of proofs/Lookups
 abbrev pub pair_is : Pair → Pair → Bool
 pair_is p q = step_is p.first q.first && step_is p.second q.second
 
--- the words for the nodes of a link are those of the pair
+-- the nodes of a link are those of the pair
 abbrev pub nodes_are : Pair → Ends → Bool
-nodes_are p e = eqb (p.first.node + 1) e.from && eqb (p.second.node + 1) e.to
+nodes_are p e = option_eq eqb e.from (Some p.first.node) && option_eq eqb e.to (Some p.second.node)
 
 -- its orientations are
-abbrev pub marks_are : Pair → ℕ → ℕ → Bool
-marks_are p leaves enters = eqb p.first.mark leaves && eqb p.second.mark enters
+abbrev pub marks_are : Pair → Orientation → Orientation → Bool
+marks_are p leaves enters = eqb (sign_of p.first.mark) (sign_of leaves) && eqb (sign_of p.second.mark) (sign_of enters)
 
 -- Link i of the text is kept, and has the parts of the pair.
 pub record LinkMatch (text work : List ℕ) (b : Bases) (n : Counts) (g : Layout) (m : Made) (p : Pair) (i : ℕ) (r : Bool) : Type 0 where

@@ -44,6 +44,7 @@ fn put_link(work: &mut [u32], n: Counts, g: Layout, s: Tally, step: usize, same:
 }
 
 // Adds the link of new step `step` and the step behind it, where there is none.
+#[tactic(auto, using(crate::proofs::Adding::pair_there))]
 pub fn add_pair(text: &[u8], work: &mut [u32], a: Area, s: Tally, step: usize) -> Tally
     requires relinkable { Relinkable text.now work.old a.b a.n a.g a.m × AddedRows work.old a.n a.g a.m s.added }
     requires step_bound { (step + 1 < a.m.steps) × (s.added < a.n.steps) × (s.loops ≤ s.added) }
@@ -63,10 +64,8 @@ pub fn add_path(text: &[u8], work: &mut [u32], a: Area, s: Tally, first: usize, 
     ensures { PathAdded text.now work.old work.new a.b a.n a.g a.m s first end result }
 {
     let mut now = s;
-    let mut k = first;
-    while k + 1 < end {
-        now = add_pair(text, work, a, now, k);
-        k += 1;
+    for k in first + 1..end {
+        now = add_pair(text, work, a, now, k - 1);
     }
     now
 }
@@ -77,11 +76,9 @@ pub fn add_paths(text: &[u8], work: &mut [u32], a: Area) -> Tally
     ensures { PathsAdded text.now work.old work.new a.b a.n a.g a.m result }
 {
     let mut s = Tally { added: 0, loops: 0 };
-    let mut p = 0;
-    while p < a.n.paths {
+    for p in 0..a.n.paths {
         let path = new_path_at(work, a, PathNo(p as u32));
         s = add_path(text, work, a, s, path.first, path.end);
-        p += 1;
     }
     s
 }

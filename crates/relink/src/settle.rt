@@ -6,6 +6,7 @@ use crate::pairs::add_paths;
 use link_ends::ends::put_all_ends;
 use normalize_tables::layout::Area;
 use runs::counts::self_links;
+use tables::graph::Graph;
 
 // How many links are added and how many are removed, and how many of those that there are now have equal ends.
 #[derive(Clone, Copy)]
@@ -22,7 +23,13 @@ pub fn settle_links(text: &[u8], work: &mut [u32], a: Area) -> Links
 {
     let removed = put_all_ends(text, work, a);
     let tally = add_paths(text, work, a);
-    let all = self_links(text, work, a.b, a.n);
+    let graph = Graph {
+        text,
+        work,
+        b: a.b,
+        n: a.n,
+    };
+    let all = self_links(&graph);
     Links {
         added: tally.added,
         removed,

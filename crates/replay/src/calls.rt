@@ -1,11 +1,11 @@
 // A case replayed: its call, and all that the call returns and leaves behind.
-ghost use Rattle.std.specs.Prelude.{◌≡◌, ◌<◌, length};
+ghost use Rattle.std.specs.Prelude.{◌≡◌, length};
 ghost use Rattle.cases.specs.Cases.{Tells, CaseIs};
 ghost use Rattle.replay.specs.Left.{Left};
 
 use crate::counters::counters;
 use cases::agreement::agrees;
-use cases::buffers::{fill_bytes, fill_words, within, words_left};
+use cases::buffers::{fill_bytes, fill_words, words_left};
 use cases::headers::{ARG, ROOM};
 use cases::lists::Case;
 use normalize::config::NormalizeSelfLoopsConfig;
@@ -37,69 +37,54 @@ pub fn call(
     out: &mut [u8],
     work: &mut [u32],
 ) -> NormalizeSelfLoopsResult {
-    if service == b'n' {
-        return normalize_repeat_self_loops(text, NormalizeSelfLoopsConfig::new(arg), out, work);
+    match service {
+        b'n' => normalize_repeat_self_loops(text, NormalizeSelfLoopsConfig::new(arg), out, work),
+        b'r' => uncounted(diagnose_gfa_with_top_n(text, arg, out, work)),
+        _ => uncounted(spell_path(text, arg, out, work)),
     }
-    if service == b'r' {
-        return uncounted(diagnose_gfa_with_top_n(text, arg, out, work));
-    }
-    uncounted(spell_path(text, arg, out, work))
 }
 
 // Are the answer and the counters of a call those of its case, and do its buffers hold the output, a cleared work area and nothing else
 // that is new?
 pub fn result_agrees(
     list: &[u8],
-    start: usize,
     c: Case,
     row: &[usize; 24],
     r: NormalizeSelfLoopsResult,
     out: &[u8],
     work: &[u32],
 ) -> bool
-    requires { (start < length list.now) × CaseIs (length list.now) start c }
+    requires { CaseIs (length list.now) c.start c }
     ensures { Tells (Left list.now c row.now out.now work.now) result }
 {
     let a = r.answer;
-    let counted = counters(list[start], r.stats);
-    if !agrees(
-        list,
-        start,
-        c,
-        row,
-        &[a.number, a.line, a.from, a.length],
-        &counted,
-        out,
-    ) {
-        return false;
-    }
-    words_left(work, row[WORK])
+    let answer = [a.number, a.line, a.from, a.length];
+    let more = counters(list[c.start], r.stats);
+    agrees(list, c, row, &answer, &more, out) && words_left(work, row[WORK])
 }
 
 // Replays the call of a case in buffers that hold a pattern: is all as recorded?
 pub fn case_agrees(
     list: &[u8],
-    start: usize,
     c: Case,
     row: &[usize; 24],
     out: &mut [u8],
     work: &mut [u32],
 ) -> bool
-    requires { (start < length list.now) × CaseIs (length list.now) start c }
+    requires { CaseIs (length list.now) c.start c }
     ensures { Tells (Left list.now c row.now out.new work.new) result }
 {
-    let text = c.text;
-    let stop = c.stop;
-    let room = within(row[ROOM], out.len());
-    let words = within(row[WORK], work.len());
+    let text = &list[c.text..c.stop];
+    let room = row[ROOM].min(out.len());
+    let words = row[WORK].min(work.len());
     fill_bytes(out);
     fill_words(work);
     let r = call(
-        list[start],
-        &list[text..stop],
+        list[c.start],
+        text,
         row[ARG],
         &mut out[..room],
         &mut work[..words],
     );
-    result_agrees(list, start, c, row, r, out, work)
+    result_agrees(list, c, row, r, out, work)
 }

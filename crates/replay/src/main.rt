@@ -2,7 +2,7 @@
 // pattern, and its answer, all of its output and all of its work area are compared.
 #![tactic(auto)]
 
-ghost use Rattle.std.specs.Prelude.{◌+◌, ◌≤◌, ◌<◌, length};
+ghost use Rattle.std.specs.Prelude.{◌+◌, ◌≤◌, length};
 ghost use Rattle.cases.specs.Cases.{CaseIs};
 
 mod calls;
@@ -17,22 +17,21 @@ use cases::tallies::{Tally, counted, print};
 fn replay_case(
     service: u8,
     list: &[u8],
-    start: usize,
     c: Case,
     row: &[usize; 24],
     out: &mut [u8],
     work: &mut [u32],
     t: Tally,
 ) -> Tally
-    requires case_is { CaseIs (length list.now) start c }
-    requires cases_le_start { (t.cases ≤ start) × (start < length list.now) × (t.differ ≤ t.cases) }
+    requires case_is { CaseIs (length list.now) c.start c }
+    requires cases_le_start { (t.cases ≤ c.start) × (t.differ ≤ t.cases) }
     ensures { (result.cases ≤ t.cases + 1) × (result.differ ≤ result.cases) }
 {
-    if list[start] != service {
+    if list[c.start] != service {
         return t;
     }
-    let agrees = case_agrees(list, start, c, row, out, work);
-    counted(t, list, start, c.end, agrees)
+    let agrees = case_agrees(list, c, row, out, work);
+    counted(t, list, c.start, c.end, agrees)
 }
 
 // Replays the cases of a service, named by its first letter, in their order, and prints what became of them.
@@ -43,9 +42,10 @@ fn replay(service: u8, name: &[u8], list: &[u8], out: &mut [u8], work: &mut [u32
         differ: 0,
     };
     let mut at = skip(list, 0);
+    // By cases: each says where the next one starts.
     while at < list.len() {
         let c = case_at(list, at, &mut row);
-        t = replay_case(service, list, at, c, &row, out, work, t);
+        t = replay_case(service, list, c, &row, out, work, t);
         at = c.next;
     }
     print(name, t);

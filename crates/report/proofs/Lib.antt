@@ -3,3 +3,4 @@ pub mod Repeating
 pub mod Ordering
 pub mod Reported
 pub mod Answering
+pub mod Serving

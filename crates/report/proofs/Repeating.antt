@@ -1,5 +1,5 @@
 -- Totals over runs. Assumes nothing.
-use Prim.Native.Nat.{ℕ, ◌+◌, ◌*◌, ◌-◌, ◌≤◌, ◌<◌}
+use Prim.Native.Nat.{ℕ, ◌+◌, ◌*◌, ◌-◌, ◌≤◌}
 use native.Mathlib.Omega.{arith}
 use mathlib.Core.List.{List, ◌∷◌, map}
 use mathlib.Core.Path.{◌≡◌, refl, sym, ap, subst, ◌∙◌}
@@ -39,28 +39,22 @@ run_few : (t : Repeats) (times : ℕ) → (with_run t times).runs ≤ t.runs + 1
 run_few t times = by_test (leb 2 times) (λ e. rw e (omega arith)) (λ e. rw e (omega arith))
 
 -- The state at step i: the runs before it are counted.
-pub record Repeating (text work : List ℕ) (b : Bases) (n : Counts) (first end : ℕ) (before t : Repeats) (i : ℕ) : Type 0 where
-  pub readable : Readable text work b n
+pub record Repeating (text work : List ℕ) (b : Bases) (first end : ℕ) (before t : Repeats) (i : ℕ) : Type 0 where
   pub low : first ≤ i
   pub high : i ≤ end
-  pub last : end ≤ n.steps
-  pub small : before.runs + end < 4611686018427387904
   pub few : t.runs ≤ before.runs + (i - first)
   pub left : repeats_with before (runs_of (steps_from text work b first end)) ≡ repeats_with t (runs_of (steps_from text work b i end))
 
-module _ {text work : List ℕ} {b : Bases} {n : Counts} {first end : ℕ} {before : Repeats} where
-  pub repeating_start : Readable text work b n → first ≤ end → end ≤ n.steps → before.runs + end < 4611686018427387904 → Repeating text work b n first end before before first
-  repeating_start t h l s = record { readable = t; low = omega arith; high = h; last = l; small = s; few = omega arith; left = refl }
+module _ {text work : List ℕ} {b : Bases} {first end : ℕ} {before : Repeats} where
+  pub repeating_start : first ≤ end → Repeating text work b first end before before first
+  repeating_start h = record { low = omega arith; high = h; few = omega arith; left = refl }
 
-  module _ {t : Repeats} {i : ℕ} (s : Repeating text work b n first end before t i) where
-    pub repeating_more : {r : ℕ} {u : Repeats} → RunFrom text work b i end r → u ≡ with_run t (r - i) → Repeating text work b n first end before u r
+  module _ {t : Repeats} {i : ℕ} (s : Repeating text work b first end before t i) where
+    pub repeating_more : {r : ℕ} {u : Repeats} → RunFrom text work b i end r → u ≡ with_run t (r - i) → Repeating text work b first end before u r
     repeating_more {r} {u} q e =
         record {
-          readable = s.readable;
           low = omega (arith, s.low, q.low);
           high = q.high;
-          last = s.last;
-          small = s.small;
           few = rw e (omega (arith, run_few t (r - i), s.few, s.low, q.low));
           left = s.left ∙ ap (repeats_with t) q.first ∙ run_more t (record { step = step_no text work b i; count = r - i }) (runs_of (steps_from text work b r end)) ∙ rw e;
         }
@@ -76,36 +70,32 @@ module _ {text work : List ℕ} {b : Bases} {n : Counts} {first end : ℕ} {befo
 -- ---- of all paths
 
 -- The state at path p: the paths before it are counted.
-pub record Totalling (text work : List ℕ) (b : Bases) (n : Counts) (t : Repeats) (p : ℕ) : Type 0 where
-  pub readable : Readable text work b n
-  pub high : p ≤ n.paths
+pub record Totalling (text work : List ℕ) (b : Bases) (t : Repeats) (p : ℕ) : Type 0 where
   pub few : t.runs ≤ p * 2097152
   pub runs : t.runs ≡ length (join (map repeats (paths_to text work b p)))
   pub longest : t.longest ≡ longest_of (join (map repeats (paths_to text work b p)))
 
-module _ {text work : List ℕ} {b : Bases} {n : Counts} where
-  pub totalling_start : Readable text work b n → Totalling text work b n (record { runs = 0; longest = 0 }) 0
+module _ {text work : List ℕ} {b : Bases} where
+  pub totalling_start : Totalling text work b (record { runs = 0; longest = 0 }) 0
   unfolding join longest_of
-  totalling_start h = record { readable = h; high = omega arith; few = omega arith; runs = rw (paths_zero text work b); longest = rw (paths_zero text work b) }
+  totalling_start = record { few = omega arith; runs = rw (paths_zero text work b); longest = rw (paths_zero text work b) }
 
-  module _ {t : Repeats} {p : ℕ} (s : Totalling text work b n t p) where
-    pub totalling_more : {r : PathWords} {u : Repeats} → p < n.paths → PathIs text work b n p r → RepeatsIs text work b r.first r.end t u → Totalling text work b n u (p + 1)
-    totalling_more {r} {u} h is q =
+  module _ {n : Counts} {t : Repeats} {p : ℕ} (s : Totalling text work b t p) where
+    pub totalling_more : {r : PathWords} {u : Repeats} → Readable text work b n → PathIs text work b n p r → RepeatsIs text work b r.first r.end t u → Totalling text work b u (p + 1)
+    totalling_more {r} {u} l is q =
         let ps = paths_to text work b p in
         let pa = path_no text work b p in
         let here : keep is_repeat (runs_of (steps_from text work b r.first r.end)) ≡ repeats pa = unfold repeats in rw is.path in
         let rs = joined_last repeats ps pa in
         record {
-          readable = s.readable;
-          high = omega arith;
-          few = omega (arith, q.few, s.few, is.high, s.readable.few.4);
+          few = omega (arith, q.few, s.few, is.high, l.few.4);
           runs = ap (λ z. z.runs) q.is ∙ rw (paths_more text work b p, rs, length-append, here, s.runs);
           longest = ap (λ z. z.longest) q.is ∙ rw (paths_more text work b p, rs, longest_append, here, s.longest);
         }
 
-    pub totalling_end : n.paths ≤ p → AllRepeats text work b n t
-    totalling_end h =
-        let e : p ≡ n.paths = omega (arith, s.high) in
+    pub totalling_end : p ≤ n.paths → n.paths ≤ p → AllRepeats text work b n t
+    totalling_end l h =
+        let e : p ≡ n.paths = omega arith in
         record {
           runs = subst (λ k. t.runs ≡ length (join (map repeats (paths_to text work b k)))) e s.runs;
           longest = subst (λ k. t.longest ≡ longest_of (join (map repeats (paths_to text work b k)))) e s.longest;

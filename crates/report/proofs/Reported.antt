@@ -4,7 +4,8 @@ use native.Mathlib.Omega.{arith}
 use mathlib.Core.Bool.{Bool, true, false, cond, ◌&&◌, true≢false}
 use mathlib.Core.List.{List, [], ◌∷◌, ◌++◌, map, map-append}
 use mathlib.Core.Logic.{inl}
-use mathlib.Core.Option.{Option, none, some, Option-elim, get_or}
+use Rattle.std.specs.Prelude.{Option, unwrap_or, None, Some}
+use Rattle.gfa_spec.specs.Options.{map_or}
 use mathlib.Core.Path.{◌≡◌, refl, sym, ap, ◌∙◌}
 use lib.Dec.{ltb}
 use lib.ListN.{length, take, length-append, length-map}
@@ -23,8 +24,10 @@ use Rattle.gfa_spec.proofs.Each.{each_implies}
 use Rattle.work.proofs.Rows.{only_kept, rows_length}
 use Rattle.tables.specs.declared.tables.Bases.{Bases}
 use Rattle.tables.specs.declared.tables.Counts.{Counts}
+use Rattle.tables.specs.Segments.{segment_found}
+use Rattle.tables.specs.Tables.{Readable}
 use Rattle.tables.specs.ByNumber.{segment_no, path_no, segments_of, links_to, paths_to, tables_end}
-use Rattle.tables.proofs.ByNumber.{TablesKept, segments_length, paths_length, segments_nth, paths_nth, segments_stand, paths_stand}
+use Rattle.tables.proofs.ByNumber.{TablesKept, readable_stands, segments_length, paths_length, segments_nth, paths_nth, segments_stand, paths_stand}
 use Rattle.gfa_spec.proofs.Counting.{map_some}
 use Rattle.tables.proofs.Numbers.{none_sequence, some_sequence}
 use Rattle.runs.specs.Counts.{over_rows}
@@ -48,16 +51,14 @@ use Rattle.ranks.proofs.Merges.{nums_split}
 use Rattle.writers.proofs.Joining.{ended_append}
 use Rattle.ranks.proofs.Numbering.{each_up}
 use Rattle.nodes.proofs.Pairs.{each, both as both_of, of_each}
-use Rattle.tally.proofs.Linking.{tabled_stands}
-use Rattle.work.specs.Rows.{word_of}
 
 -- ---- a node, word by word
 
 -- the segment's number
-order_word : (o : Option ℕ) → order_from (word_of o) ≡ get_or o largest64
-unfolding order_from word_of
-order_word none = refl
-order_word (some k) = rw (ne_eqb (suc k) 0 (λ e. omega arith)) (omega arith)
+order_word : (o : Option ℕ) → order_from (segment_found o) ≡ unwrap_or o largest64
+unfolding order_from
+order_word None = refl
+order_word (Some k) = refl
 
 -- the orientation pairs
 flagged : Bool → Bool → Bool → Bool → List (List ℕ)
@@ -112,7 +113,7 @@ unfolding bits_of orientations keep is_pair bytes
 pairs_word ls = pairs_code (any (is_pair 43 43) ls) (any (is_pair 43 45) ls) (any (is_pair 45 43) ls) (any (is_pair 45 45) ls) ∙ flagged_kept (any (is_pair 43 43) ls) (any (is_pair 43 45) ls) (any (is_pair 45 43) ls) (any (is_pair 45 45) ls)
 
 -- a segment that is found is one of them
-pub number_small : (ss : List Segment) (name : List ℕ) (k : ℕ) → segment_number ss name ≡ some k → k < length ss
+pub number_small : (ss : List Segment) (name : List ℕ) (k : ℕ) → segment_number ss name ≡ Some k → k < length ss
 unfolding segment_number
 number_small [] name k e = let z : ◌≡◌ {A = ℕ} 0 1 = cc in absurd (omega arith)
 number_small (s ∷ ss) name k e =
@@ -122,26 +123,25 @@ number_small (s ∷ ss) name k e =
 
 -- the preview of the segment, by its number
 preview_word : (text w : List ℕ) (b : Bases) (n : Counts) (name : List ℕ) (o : Option ℕ) → segment_number (segments_of text w b n) name ≡ o
-    → preview_from text w b (word_of o) ≡ sequence_preview (sequence_or_empty (segments_of text w b n) name)
-unfolding word_of preview_from sequence_or_empty
-preview_word text w b n name none e = rw (none_sequence (segments_of text w b n) name e) (unfold sequence_preview in refl)
-preview_word text w b n name (some k) e =
+    → preview_from text w b (segment_found o) ≡ sequence_preview (sequence_or_empty (segments_of text w b n) name)
+unfolding preview_from sequence_or_empty
+preview_word text w b n name None e = rw (none_sequence (segments_of text w b n) name e) (unfold sequence_preview in refl)
+preview_word text w b n name (Some k) e =
     let ss = segments_of text w b n in
     let d = segment_no text w b 0 in
     let l : k < n.segs = omega (arith, number_small ss name k e, segments_length text w b n.segs) in
-    let z : suc k - 1 ≡ k = omega arith in
-    let q : sequence_of ss name ≡ some (segment_no text w b k).sequence = some_sequence ss name k d e ∙ ap (λ s. some s.sequence) (segments_nth text w b n.segs k d l) in
-    rw (ne_eqb (suc k) 0 (λ e. omega arith), z, q)
+    let q : sequence_of ss name ≡ Some (segment_no text w b k).sequence = some_sequence ss name k d e ∙ ap (λ s. Some s.sequence) (segments_nth text w b n.segs k d l) in
+    rw q
 
 -- the name of a path, by its number
 path_word : (text w : List ℕ) (b : Bases) (n : Counts) (number : ℕ) → number ≤ n.paths → path_from text w b number ≡ named number (paths_to text w b n.paths)
-unfolding path_from named Option-elim
+unfolding path_from named map_or
 path_word text w b n zero h = refl
 path_word text w b n (suc k) h =
     let ps = paths_to text w b n.paths in
     let d = path_no text w b 0 in
     let z : suc k - 1 ≡ k = omega arith in
-    let q : nth_path k ps ≡ some (path_no text w b k) = path_some k ps d (omega (arith, paths_length text w b n.paths)) ∙ ap some (paths_nth text w b n.paths k d (omega arith)) in
+    let q : nth_path k ps ≡ Some (path_no text w b k) = path_some k ps d (omega (arith, paths_length text w b n.paths)) ∙ ap Some (paths_nth text w b n.paths k d (omega arith)) in
     rw (ne_eqb (suc k) 0 (λ e. omega arith), z, q)
 
 -- ---- lists of numbers
@@ -193,8 +193,8 @@ module _ {es : List Entry} {text w w' : List ℕ} {b : Bases} {n : Counts} {m : 
   keeps_tables : TablesKept b n w w'
   keeps_tables = only_kept b.lines (tables_end b n) r.only (inl (omega arith), tt)
 
-  pub ranked_tabled : Tabled text w' b n
-  ranked_tabled = tabled_stands l r.long keeps_tables
+  pub ranked_readable : Readable text w' b n
+  ranked_readable = readable_stands l.readable keeps_tables r.long
 
   module _ (i : ℕ) (h : i < m) where
     node_row : node_in text w' b n i ≡ node_of es (name_no text w' (tables_end b n) i)
@@ -208,7 +208,7 @@ module _ {es : List Entry} {text w w' : List ℕ} {b : Bases} {n : Counts} {m : 
         let ls = links_to text w b n.links in
         let ps = paths_to text w b n.paths in
         let before = preview_word text w' b n name (segment_number (segments_of text w' b n) name) refl in
-        let preview : preview_from text w' b (word_of (segment_number ss name)) ≡ sequence_preview (sequence_or_empty ss name) = rw (segments_stand l.readable keeps_tables) at before in
+        let preview : preview_from text w' b (segment_found (segment_number ss name)) ≡ sequence_preview (sequence_or_empty ss name) = rw (segments_stand l.readable keeps_tables) at before in
         let path : path_from text w' b first ≡ named first ps = rw (paths_stand l.readable keeps_tables) at (path_word text w' b n first (omega (arith, c.known, paths_length text w b n.paths))) in
         rw (
           x.of_segments,

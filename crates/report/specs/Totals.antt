@@ -16,7 +16,6 @@ use Rattle.report.specs.declared.totals.Areas.{Areas}
 use Rattle.ranks.specs.declared.ranking.Order.TheVariants.{Lengths, Ranks}
 use Rattle.ranks.specs.Sorting.{sort_by}
 use Rattle.nodes.specs.Table.{nodes_end, CountRows, NodeTable}
-use Rattle.tally.specs.Tabled.{Tabled}
 use Rattle.ranks.specs.Ranking.{node_key, goes_by, nums_at, up_to, OrderedIs}
 use Rattle.node_lines.specs.NodeLines.{listed, Printable}
 use Rattle.node_lines.specs.Groups.{buckets, Rising}
@@ -107,7 +106,6 @@ report_from text work b n m t top =
 
 -- What is asked before the report is written.
 pub record Reportable (text work : List ℕ) (b : Bases) (n : Counts) (m : ℕ) : Type 0 where
-  pub tabled : Tabled text work b n
   pub few : m ≤ n.links
   pub rows : (i : ℕ) → i < m → Printable text work b n i
   pub lengths : (k : ℕ) → k < m → get_or work (lengths_of b n + k) 0 < m

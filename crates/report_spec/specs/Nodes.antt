@@ -1,6 +1,6 @@
 -- The nodes of a report, and what is reported of each. Document 01, "The report's lines".
 use Rattle.std.specs.Prelude.{ℕ, max, Bool, cond, ◌&&◌, List, [], ◌∷◌, map, eqb, length}
-use Rattle.std.proofs.Math.Option.{get_or}
+use Rattle.std.specs.Prelude.{unwrap_or}
 use Rattle.gfa_spec.specs.Bytes.{bytes, same, any, keep, count, sum, join, is_empty, nth}
 use Rattle.gfa_spec.specs.Decimal.{largest64}
 use Rattle.gfa_spec.specs.Reading.{Step, Segment, Link, Path, P, W, Entry}
@@ -25,7 +25,7 @@ links_on es node = keep (λ l. same l.from node && same l.to node) (links es)
 
 -- the number of the segment so named; an unknown node has 18446744073709551615
 unfoldable pub order_of : List Segment → List ℕ → ℕ
-order_of ss node = get_or (segment_number ss node) largest64
+order_of ss node = unwrap_or (segment_number ss node) largest64
 
 -- the orientation pairs that some self-link has, sorted, without repeats
 unfoldable pub orientations : List Link → List (List ℕ)

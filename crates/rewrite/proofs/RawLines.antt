@@ -1,16 +1,13 @@
 -- Lines that are written as they came: what a row says of them. Assumes nothing.
-use Prim.Native.Nat.{ℕ, ◌≤◌, ◌<◌}
-use native.Mathlib.Omega.{arith}
-use mathlib.Core.Bool.{cond}
+use mathlib.Core.Bool.{true, false}
+use Prim.Native.Nat.{ℕ}
 use mathlib.Core.List.{List, [], ◌∷◌, append-nil}
 use mathlib.Core.Path.{◌≡◌, refl, ap}
-use lib.Dec.{eqb}
-use borrow.Author.Tests.{eq-eqb, ne_eqb}
-use Rattle.gfa_spec.specs.Bytes.{nil, join, end_line, ended}
+use Rattle.gfa_spec.specs.Bytes.{one, nil, join, end_line, ended}
 use Rattle.gfa_spec.specs.Reading.{choose}
-use Rattle.writers.specs.Writers.{Wrote}
-use Rattle.writers.proofs.Writing.{nothing}
-use Rattle.tables.specs.declared.entry.LineEntry.{LineEntry}
+use Rattle.writers.specs.declared.writer.Writer.{Writer}
+use Rattle.writers.specs.Writers.{Puts}
+use Rattle.writers.proofs.Writing.{puts_nothing}
 use Rattle.tables.specs.declared.entry.Record.{Record}
 use Rattle.tables.specs.declared.entry.Record.TheVariants.{Segment, Link, Path, Header, Comment, Blank, Other}
 use Rattle.tables.specs.declared.tables.Bases.{Bases}
@@ -18,69 +15,76 @@ use Rattle.tables.specs.declared.tables.Counts.{Counts}
 use Rattle.tables.specs.declared.rows.LinkWords.{LinkWords}
 use Rattle.tables.specs.declared.rows.SegmentWords.{SegmentWords}
 use Rattle.tables.specs.Entries.{entry_of, Fits}
-use Rattle.tables.specs.ByNumber.{bytes_in, Inside, LineIs, SegmentIs, LinkIs}
+use Rattle.scan.specs.declared.places.Place.{Place}
+use Rattle.scan.specs.Places.{bytes_in, Inside}
+use Rattle.tables.specs.ByNumber.{LineIs, SegmentIs, LinkIs}
 use Rattle.normalize_tables.specs.declared.layout.Layout.{Layout}
 use Rattle.normalize_tables.specs.declared.rows.Ends.{Ends}
 use Rattle.normalize_tables.specs.NewByNumber.{ends_no}
 use Rattle.rewrite.specs.declared.lines.Class.{Class}
-use Rattle.rewrite.specs.declared.lines.Raw.{Raw}
-use Rattle.rewrite.specs.Pieces.{class_no, raw_of, class_lines, raw_piece, segment_piece, kept_piece}
+use Rattle.rewrite.specs.declared.lines.Class.TheVariants as class
+use Rattle.std.specs.Prelude.{Option, Some, None}
+use Rattle.rewrite.specs.Pieces.{raw_of, class_lines, raw_piece, segment_piece, kept_piece}
 
 -- ---- raw lines
 
--- the line of a record by its class
-class_line : (text work : List ℕ) (b : Bases) (c : Class) (r : Record) → 0 < class_no c
-    → class_lines c (entry_of text work b r) ≡ cond (eqb (class_no (raw_of r).class) (class_no c)) (bytes_in text (raw_of r).line ∷ []) []
-unfolding class_lines entry_of raw_of choose nil
-class_line text work b c (Segment k) h = rw (ne_eqb 0 (class_no c) (λ e. omega arith))
-class_line text work b c (Link k) h = rw (ne_eqb 0 (class_no c) (λ e. omega arith))
-class_line text work b c (Path k) h = rw (ne_eqb 0 (class_no c) (λ e. omega arith))
-class_line text work b c (Header l) h = refl
-class_line text work b c (Comment l) h = refl
-class_line text work b c (Blank l) h = refl
-class_line text work b c (Other l) h = refl
+-- the lines at a place, if there is one
+abbrev lines_in : List ℕ → Option Place → List (List ℕ)
+lines_in text None = []
+lines_in text (Some p) = bytes_in text p ∷ []
 
--- a raw line is a part of the text
-raw_inside : (text : List ℕ) (n : Counts) (r : Record) → Fits text n r → Inside text (raw_of r).line
-unfolding raw_of
-raw_inside text n (Segment k) h = omega arith
-raw_inside text n (Link k) h = omega arith
-raw_inside text n (Path k) h = omega arith
-raw_inside text n (Header l) h = h
-raw_inside text n (Comment l) h = h
-raw_inside text n (Blank l) h = h
-raw_inside text n (Other l) h = h
+-- the place is in the text, if there is one
+abbrev InsideIf : List ℕ → Option Place → Type 0
+InsideIf text None = Unit {0}
+InsideIf text (Some p) = Inside text p
 
-module _ {text work : List ℕ} {b : Bases} {n : Counts} {i : ℕ} {e : LineEntry} {w : Raw} (q : LineIs text work b n i e) (f : w ≡ raw_of e.holds) where
-  pub raw_place : Inside text w.line
-  raw_place = rw f (raw_inside text n e.holds q.fits)
+-- the lines of a class of a record are its raw line of that class, which is a part of the text
+class_raw : (text work : List ℕ) (b : Bases) (n : Counts) (c : Class) (r : Record) → Fits text n r
+    → (class_lines c (entry_of text work b r) ≡ lines_in text (raw_of c r)) × InsideIf text (raw_of c r)
+unfolding class_lines entry_of raw_of choose one nil
+class_raw text work b n class.Leading (Segment k) h = (refl, tt)
+class_raw text work b n class.Leading (Link k) h = (refl, tt)
+class_raw text work b n class.Leading (Path k) h = (refl, tt)
+class_raw text work b n class.Leading (Header l) h = (refl, h)
+class_raw text work b n class.Leading (Comment l) h = (refl, h)
+class_raw text work b n class.Leading (Blank l) h = (refl, h)
+class_raw text work b n class.Leading (Other l) h = (refl, tt)
+class_raw text work b n class.Other (Segment k) h = (refl, tt)
+class_raw text work b n class.Other (Link k) h = (refl, tt)
+class_raw text work b n class.Other (Path k) h = (refl, tt)
+class_raw text work b n class.Other (Header l) h = (refl, tt)
+class_raw text work b n class.Other (Comment l) h = (refl, tt)
+class_raw text work b n class.Other (Blank l) h = (refl, tt)
+class_raw text work b n class.Other (Other l) h = (refl, h)
 
-  module _ (c : Class) {x y limit at : ℕ} {out : List ℕ} (ex : x ≡ class_no w.class) (ey : y ≡ class_no c) (h : 0 < class_no c) where
-    -- nothing is written where it is of another class
-    pub raw_passed : (x ≡ y → ⊥) → at ≤ limit → Wrote limit out at (raw_piece c text work b i) out at
-    unfolding raw_piece ended join
-    raw_passed k l = rw (q.entry, class_line text work b c e.holds h, ← f, ← ex, ← ey, ne_eqb x y k) (nothing (omega arith))
+module _ {text work : List ℕ} {b : Bases} {n : Counts} {i : ℕ} {e : Record} {o : Option Place} (c : Class) (q : LineIs text work b n i e) (f : o ≡ raw_of c e) where
+  pub raw_place : {p : Place} → o ≡ Some p → Inside text p
+  raw_place s = rw (← f, s) at (class_raw text work b n c e q.fits).1
 
-    -- else the line is
-    pub raw_written : {out' : List ℕ} {r : ℕ} → x ≡ y → Wrote limit out at (end_line (bytes_in text w.line)) out' r → Wrote limit out at (raw_piece c text work b i) out' r
-    unfolding raw_piece ended join
-    raw_written k v = rw (q.entry, class_line text work b c e.holds h, ← f, ← ex, ← ey, eq-eqb x y k, append-nil) v
+  -- nothing is written where it holds none
+  pub raw_passed : {w : Writer} → o ≡ None → Puts w (raw_piece c text work b i) w
+  unfolding raw_piece ended join
+  raw_passed s = rw (q.entry, (class_raw text work b n c e q.fits).0, ← f, s) puts_nothing
+
+  -- else the line is
+  pub raw_put : {p : Place} {line : List ℕ} {before after : Writer} → o ≡ Some p → line ≡ bytes_in text p → Puts before (end_line line) after → Puts before (raw_piece c text work b i) after
+  unfolding raw_piece ended join
+  raw_put s z v = rw (q.entry, (class_raw text work b n c e q.fits).0, ← f, s, append-nil, ← z) v
 
 -- ---- segments and links
 
-module _ {text work : List ℕ} {b : Bases} {i limit at r : ℕ} {out out' : List ℕ} where
-  pub segment_written : {s : SegmentWords} → SegmentIs text work b i s → Wrote limit out at (end_line (bytes_in text s.line)) out' r → Wrote limit out at (segment_piece text work b i) out' r
+module _ {text work : List ℕ} {b : Bases} {i : ℕ} {line : List ℕ} {before after : Writer} where
+  pub segment_put : {s : SegmentWords} → SegmentIs text work b i s → line ≡ bytes_in text s.line → Puts before (end_line line) after → Puts before (segment_piece text work b i) after
   unfolding segment_piece
-  segment_written q v = rw q.segment v
+  segment_put q z v = rw (q.segment, ← z) v
 
   -- the line of a link that is kept
-  pub kept_written : (g : Layout) {e : Ends} {l : LinkWords} → e ≡ ends_no work g i → e.gone ≡ 0 → LinkIs text work b i l
-      → Wrote limit out at (end_line (bytes_in text l.line)) out' r → Wrote limit out at (kept_piece text work b g i) out' r
+  pub kept_put : (g : Layout) {e : Ends} {l : LinkWords} → e ≡ ends_no work g i → e.gone ≡ false → LinkIs text work b i l → line ≡ bytes_in text l.line
+      → Puts before (end_line line) after → Puts before (kept_piece text work b g i) after
   unfolding kept_piece
-  kept_written g f z q v = rw (← (ap (λ e. e.gone) f), z, q.link) v
+  kept_put g f gone q z v = rw (← (ap (λ e. e.gone) f), gone, q.link, ← z) v
 
 -- a link that is removed
-pub kept_passed : (text work : List ℕ) (b : Bases) (g : Layout) (i : ℕ) {limit at : ℕ} {out : List ℕ} {e : Ends} → e ≡ ends_no work g i → (e.gone ≡ 0 → ⊥) → at ≤ limit
-    → Wrote limit out at (kept_piece text work b g i) out at
+pub kept_passed : (text work : List ℕ) (b : Bases) (g : Layout) (i : ℕ) {w : Writer} {e : Ends} → e ≡ ends_no work g i → e.gone ≡ true → Puts w (kept_piece text work b g i) w
 unfolding kept_piece
-kept_passed text work b g i {e = e} f z l = rw (← (ap (λ e. e.gone) f), ne_eqb e.gone 0 z) (nothing (omega arith))
+kept_passed text work b g i {e = e} f z = rw (← (ap (λ e. e.gone) f), z) puts_nothing

@@ -5,12 +5,10 @@ use native.Mathlib.Omega.{arith}
 use mathlib.Core.Bool.{Bool, true, false, cond, not}
 use mathlib.Core.List.{List, [], ◌∷◌, ◌++◌, map, append-nil}
 use mathlib.Core.Path.{◌≡◌, refl, sym, ◌∙◌}
-use lib.Dec.{eqb}
 use lib.ListN.{length}
 use Rattle.gfa_spec.specs.Bytes.{join, keep, end_line, ended, one, nil}
 use Rattle.gfa_spec.specs.Reading.{Entry, Link, Path, choose}
 use Rattle.gfa_spec.specs.Records.{collect, leading, others}
-use Rattle.gfa_spec.specs.Runs.{bit}
 use Rattle.gfa_spec.proofs.Tests.{by_test}
 use Rattle.normalize_spec.specs.Folding.{NewStep}
 use Rattle.normalize_spec.specs.Writing.{segment_line, link_line, path_line, path_lines}
@@ -80,22 +78,22 @@ unfolding keep join
 keep_join q f [] = refl
 keep_join q f (x ∷ xs) = by_test (q x) (λ e. rw (e, keep_join q f xs)) (λ e. rw (e, keep_join q f xs))
 
--- the mark of a link that is removed or not
-mark_line : (t : Bool) (v : ℕ) (l : List ℕ) → v ≡ bit t → ended (cond (not t) (l ∷ []) []) ≡ cond (eqb v 0) (end_line l) []
-unfolding bit ended join
-mark_line true v l e = rw e
-mark_line false v l e = rw (e, append-nil)
+-- the line of a link that is removed or not
+mark_line : (t : Bool) (l : List ℕ) → ended (cond (not t) (l ∷ []) []) ≡ cond t [] (end_line l)
+unfolding ended join end_line
+mark_line true l = refl
+mark_line false l = append-nil (l ++ (10 ∷ []))
 
 -- the links that are not marked
 pub kept_pieces : (p : Link → Bool) (text work : List ℕ) (b : Bases) (g : Layout) (n : ℕ)
-    → ((i : ℕ) → i < n → (ends_no work g i).gone ≡ bit (p (link_no text work b i)))
+    → ((i : ℕ) → i < n → (ends_no work g i).gone ≡ p (link_no text work b i))
     → ended (map (λ l. l.line) (keep (λ l. not (p l)) (links_to text work b n))) ≡ pieces_to (kept_piece text work b g) n
 unfolding kept_piece
 kept_pieces p text work b g n h =
     let lines : Link → List (List ℕ) = λ l. cond (not (p l)) (l.line ∷ []) [] in
     rw (keep_join (λ l. not (p l)) (λ l. l.line))
     (pieces_many (links_to text work b) (link_no text work b) (links_zero text work b) (links_more text work b) lines n
-    ∙ pieces_same (λ i. ended (lines (link_no text work b i))) (kept_piece text work b g) n (λ i l. mark_line (p (link_no text work b i)) _ _ (h i l)))
+    ∙ pieces_same (λ i. ended (lines (link_no text work b i))) (kept_piece text work b g) n (λ i l. rw (h i l) (mark_line (p (link_no text work b i)) _)))
 
 -- the added links
 module _ (names : List (List ℕ)) (work : List ℕ) (g : Layout) where

@@ -1,12 +1,13 @@
 -- The sections, one behind the other, are the rewritten text. Assumes nothing.
 use Prim.Native.Nat.{ℕ}
 use mathlib.Core.List.{List, ◌++◌, append_assoc}
-use mathlib.Core.Path.{◌≡◌}
+use mathlib.Core.Path.{◌≡◌, ◌∙◌}
 use Rattle.gfa_spec.specs.Bytes.{ended}
 use Rattle.gfa_spec.specs.Reading.{Segment}
 use Rattle.normalize_spec.specs.Links.{is_removed}
-use Rattle.writers.specs.Writers.{Wrote, pieces_to}
-use Rattle.writers.proofs.Writing.{being, ◌▷◌}
+use Rattle.writers.specs.declared.writer.Writer.{Writer}
+use Rattle.writers.specs.Writers.{Puts, pieces_to}
+use Rattle.writers.proofs.Writing.{as_piece, ◌▷◌}
 use Rattle.writers.proofs.Joining.{ended_append}
 use Rattle.tables.specs.declared.tables.Bases.{Bases}
 use Rattle.tables.specs.declared.tables.Counts.{Counts}
@@ -23,19 +24,16 @@ use Rattle.path_lines.specs.PathPieces.{nodes, path_piece}
 seven : (a b c d e f g : List (List ℕ)) → ended (a ++ (b ++ (c ++ (d ++ (e ++ (f ++ g)))))) ≡ (ended a ++ (ended b ++ (ended c ++ ended d))) ++ (ended e ++ (ended f ++ ended g))
 seven a b c d e f g = simp (ended_append, append_assoc)
 
-module _ (text work : List ℕ) (b : Bases) (n : Counts) (g : Layout) (m : Made) {limit at r : ℕ} {out out' : List ℕ} where
-  pub front_written : {o p q : List ℕ} {x y z : ℕ} → Wrote limit out at (pieces_to (raw_piece class.Leading text work b) n.lines) o x
-      → Wrote limit o x (pieces_to (segment_piece text work b) n.segs) p y
-      → Wrote limit p y (pieces_to (new_piece text work b g m.first) m.segs) q z → Wrote limit q z (pieces_to (raw_piece class.Other text work b) n.lines) out' r
-      → Wrote limit out at (front_at text work b n g m) out' r
+module _ (text work : List ℕ) (b : Bases) (n : Counts) (g : Layout) (m : Made) {before after : Writer} where
+  pub front_put : {x y z : Writer} → Puts before (pieces_to (raw_piece class.Leading text work b) n.lines) x → Puts x (pieces_to (segment_piece text work b) n.segs) y
+      → Puts y (pieces_to (new_piece text work b g m.first) m.segs) z → Puts z (pieces_to (raw_piece class.Other text work b) n.lines) after → Puts before (front_at text work b n g m) after
   unfolding front_at
-  front_written leading segments new others = being (simp append_assoc) (leading ▷ segments ▷ new ▷ others)
+  front_put leading segments new others = as_piece (simp append_assoc) (leading ▷ segments ▷ new ▷ others)
 
-  pub back_written : (extra : ℕ) {o p : List ℕ} {x y : ℕ} → Wrote limit out at (pieces_to (kept_piece text work b g) n.links) o x
-      → Wrote limit o x (pieces_to (added_piece (nodes text work b n g m) work g) extra) p y → Wrote limit p y (pieces_to (path_piece (nodes text work b n g m) text work b g) n.paths) out' r
-      → Wrote limit out at (back_at text work b n g m extra) out' r
+  pub back_put : (extra : ℕ) {x y : Writer} → Puts before (pieces_to (kept_piece text work b g) n.links) x → Puts x (pieces_to (added_piece (nodes text work b n g m) work g) extra) y
+      → Puts y (pieces_to (path_piece (nodes text work b n g m) text work b g) n.paths) after → Puts before (back_at text work b n g m extra) after
   unfolding back_at
-  back_written extra kept added paths = being (simp append_assoc) (kept ▷ added ▷ paths)
+  back_put extra kept added paths = as_piece (simp append_assoc) (kept ▷ added ▷ paths)
 
 module _ (text work : List ℕ) (b : Bases) (n : Counts) (g : Layout) (m : Made) (extra : ℕ) where
   whole_text : {fs : List Segment} → Relinked text work b n g fs m extra → front_at text work b n g m ++ back_at text work b n g m extra ≡ rewritten_from text work b n g fs m extra
@@ -53,6 +51,5 @@ module _ (text work : List ℕ) (b : Bases) (n : Counts) (g : Layout) (m : Made)
         paths_pieces names text work b g n.paths,
       )
 
-  pub whole_written : {limit x r : ℕ} {out o out' : List ℕ} → Wrote limit out 0 (front_at text work b n g m) o x → Wrote limit o x (back_at text work b n g m extra) out' r
-      → WroteText limit out text work b n g m extra out' r
-  whole_written front back = record { wrote = λ fs h. being (whole_text h) (front ▷ back) }
+  pub whole_put : {before x after : Writer} → Puts before (front_at text work b n g m) x → Puts x (back_at text work b n g m extra) after → WroteText before text work b n g m extra after
+  whole_put front back = record { same = back.same ∙ front.same; puts = λ fs h. as_piece (whole_text h) (front ▷ back) }

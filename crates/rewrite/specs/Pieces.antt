@@ -1,41 +1,34 @@
 -- The pieces of the rewritten text, by the numbers of the rows. Document 01, "Folding", rule 7.
-use Rattle.std.specs.Prelude.{ℕ, ◌+◌, cond, List, [], ◌∷◌, ◌++◌, eqb, get_or}
-use Rattle.gfa_spec.specs.Bytes.{nil, end_line, ended}
+use Rattle.std.specs.Prelude.{ℕ, ◌+◌, cond, List, [], ◌∷◌, ◌++◌, get_or, Option, Some, None}
+use Rattle.gfa_spec.specs.Bytes.{one, nil, end_line, ended}
 use Rattle.gfa_spec.specs.Reading.{Entry, choose}
 use Rattle.normalize_spec.specs.Folding.{NewStep}
 use Rattle.normalize_spec.specs.Writing.{segment_line, link_line}
 use Rattle.tables.specs.declared.entry.Record.{Record}
-use Rattle.tables.specs.declared.entry.Record.TheVariants.{Segment, Link, Path, Header, Comment, Blank, Other}
+use Rattle.tables.specs.declared.entry.Record.TheVariants.{Header, Comment, Blank, Other}
 use Rattle.tables.specs.declared.tables.Bases.{Bases}
+use Rattle.scan.specs.declared.places.Place.{Place}
 use Rattle.tables.specs.ByNumber.{entry_no, segment_no, link_no}
 use Rattle.normalize_tables.specs.declared.layout.Layout.{Layout}
 use Rattle.normalize_tables.specs.News.{new_at}
 use Rattle.normalize_tables.specs.NewByNumber.{new_step_no, ends_no}
 use Rattle.rewrite.specs.declared.lines.Class.{Class}
 use Rattle.rewrite.specs.declared.lines.Class.TheVariants as class
-use Rattle.rewrite.specs.declared.lines.Raw.{Raw}
 
 -- ---- lines as they came
 
--- a number for each class
-abbrev pub class_no : Class → ℕ
-class_no class.Leading = 1
-class_no class.Other = 2
-class_no class.Numbered = 0
-
--- the class of a line, and the place of a raw line
-unfoldable pub raw_of : Record → Raw
-raw_of (Segment k) = record { class = class.Numbered; line = record { start = 0; size = 0 } }
-raw_of (Link k) = record { class = class.Numbered; line = record { start = 0; size = 0 } }
-raw_of (Path k) = record { class = class.Numbered; line = record { start = 0; size = 0 } }
-raw_of (Header l) = record { class = class.Leading; line = record { start = l.start; size = l.length } }
-raw_of (Comment l) = record { class = class.Leading; line = record { start = l.start; size = l.length } }
-raw_of (Blank l) = record { class = class.Leading; line = record { start = l.start; size = l.length } }
-raw_of (Other l) = record { class = class.Other; line = record { start = l.start; size = l.length } }
+-- the raw line of the class that a record holds, if it holds one
+unfoldable pub raw_of : Class → Record → Option Place
+raw_of class.Leading (Header l) = Some (record { start = l.start; size = l.length })
+raw_of class.Leading (Comment l) = Some (record { start = l.start; size = l.length })
+raw_of class.Leading (Blank l) = Some (record { start = l.start; size = l.length })
+raw_of class.Other (Other l) = Some (record { start = l.start; size = l.length })
+raw_of _ _ = None
 
 -- the line of an entry that is a raw line of the class
 unfoldable pub class_lines : Class → Entry → List (List ℕ)
-class_lines c e = choose (λ l. cond (eqb (class_no class.Leading) (class_no c)) (l ∷ []) []) (λ l. cond (eqb (class_no class.Other) (class_no c)) (l ∷ []) []) nil nil nil e
+class_lines class.Leading e = choose one nil nil nil nil e
+class_lines class.Other e = choose nil one nil nil nil e
 
 -- the same, ended, of line i
 unfoldable pub raw_piece : Class → List ℕ → List ℕ → Bases → ℕ → List ℕ
@@ -53,7 +46,7 @@ new_piece text work b g first j = end_line (segment_line (new_at text b g first 
 
 -- the line of link i, where it is not marked as removed
 unfoldable pub kept_piece : List ℕ → List ℕ → Bases → Layout → ℕ → List ℕ
-kept_piece text work b g i = cond (eqb (ends_no work g i).gone 0) (end_line (link_no text work b i).line) []
+kept_piece text work b g i = cond (ends_no work g i).gone [] (end_line (link_no text work b i).line)
 
 -- one end of an added link: its name, a tab (9), its orientation, a tab
 unfoldable pub step_end : NewStep → List ℕ

@@ -1,5 +1,5 @@
 -- The whole rewritten text from the tables. Document 01, "Folding", rule 7.
-use Rattle.std.specs.Prelude.{ℕ, not, List, ◌++◌, map}
+use Rattle.std.specs.Prelude.{ℕ, ◌≡◌, not, List, ◌++◌, map}
 use Rattle.gfa_spec.specs.Bytes.{keep, ended}
 use Rattle.gfa_spec.specs.Reading.{Segment}
 use Rattle.gfa_spec.specs.Records.{leading, others}
@@ -14,7 +14,8 @@ use Rattle.normalize_tables.specs.declared.layout.Made.{Made}
 use Rattle.normalize_tables.specs.News.{news_at, names_at, keys_at}
 use Rattle.normalize_tables.specs.NewByNumber.{new_paths_to}
 use Rattle.normalize_tables.specs.Rewritten.{Relinked}
-use Rattle.writers.specs.Writers.{Wrote, pieces_to}
+use Rattle.writers.specs.declared.writer.Writer.{Writer}
+use Rattle.writers.specs.Writers.{Puts, pieces_to}
 use Rattle.rewrite.specs.declared.lines.Class.TheVariants as class
 use Rattle.rewrite.specs.Pieces.{raw_piece, segment_piece, new_piece, kept_piece, added_piece}
 use Rattle.path_lines.specs.PathPieces.{nodes, path_piece}
@@ -46,5 +47,6 @@ rewritten_from text work b n g fs m extra =
     ++ path_lines (paths_to text work b n.paths) (new_paths_to names work g n.paths)))))))
 
 -- The rewritten text was written, whichever segments the removed links were marked for.
-pub record WroteText (limit : ℕ) (out text work : List ℕ) (b : Bases) (n : Counts) (g : Layout) (m : Made) (extra : ℕ) (out' : List ℕ) (r : ℕ) : Type 0 where
-  pub wrote : (fs : List Segment) → Relinked text work b n g fs m extra → Wrote limit out 0 (rewritten_from text work b n g fs m extra) out' r
+pub record WroteText (before : Writer) (text work : List ℕ) (b : Bases) (n : Counts) (g : Layout) (m : Made) (extra : ℕ) (after : Writer) : Type 0 where
+  pub same : after.out.ghost_name ≡ before.out.ghost_name
+  pub puts : (fs : List Segment) → Relinked text work b n g fs m extra → Puts before (rewritten_from text work b n g fs m extra) after

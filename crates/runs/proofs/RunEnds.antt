@@ -1,11 +1,13 @@
 -- The search for the end of a run. Assumes nothing.
+use denote.Enum.Bare.{sameb}
+use Rattle.scan.specs.contracts.orientation.Orientation.{the_type}
+use Rattle.scan.proofs.Orientations.{eq_signs}
 use Prim.Native.Nat.{ℕ, suc, ◌+◌, ◌-◌, ◌≤◌, ◌<◌}
 use native.Mathlib.Omega.{arith}
 use mathlib.Core.Bool.{Bool, true, false, and-true, and-false}
 use mathlib.Core.List.{List, [], ◌∷◌}
 use mathlib.Core.Path.{◌≡◌, sym, ap, ◌∙◌}
 use lib.ListN.{length}
-use borrow.Author.Tests.{eq-eqb, ne_eqb}
 use Rattle.gfa_spec.specs.Bytes.{Each}
 use Rattle.gfa_spec.specs.Reading.{Step}
 use Rattle.gfa_spec.specs.Runs.{runs, same_node, same_step}
@@ -19,16 +21,16 @@ use Rattle.runs.specs.Runs.{RunFrom}
 
 -- ---- two steps
 
-module _ (text : List ℕ) (a c : StepWords) where
+module _ (text : List ℕ) (a c : StepWords) {r : Bool} (e : r ≡ sameb the_type a.mark c.mark) where
   -- steps of two orientations differ
-  pub turned : (a.mark ≡ c.mark → ⊥) → same_step (step_of text a) (step_of text c) ≡ false
+  pub turned : r ≡ false → r ≡ same_step (step_of text a) (step_of text c)
   unfolding same_step
-  turned h = rw (ne_eqb a.mark c.mark h) (and-false (same_node (step_of text a) (step_of text c)))
+  turned h = h ∙ rw (← eq_signs a.mark c.mark, ← e, h) (sym (and-false (same_node (step_of text a) (step_of text c))))
 
   -- steps of one orientation are equal where they are on one node
-  pub turned_alike : a.mark ≡ c.mark → same_step (step_of text a) (step_of text c) ≡ same_node (step_of text a) (step_of text c)
+  pub turned_alike : {q : Bool} → r ≡ true → q ≡ same_node (step_of text a) (step_of text c) → q ≡ same_step (step_of text a) (step_of text c)
   unfolding same_step
-  turned_alike h = rw (eq-eqb a.mark c.mark h) (and-true (same_node (step_of text a) (step_of text c)))
+  turned_alike h p = p ∙ rw (← eq_signs a.mark c.mark, ← e, h) (sym (and-true (same_node (step_of text a) (step_of text c))))
 
 -- ---- the run
 
@@ -76,3 +78,6 @@ module _ {text work : List ℕ} {b : Bases} {i end : ℕ} where
                 rw (steps_more text work b (i + 1) j (omega (arith, s.low)))
                 (each_append _ (steps_from text work b (i + 1) j) (step_no text work b j ∷ []) s.equal (sym says ∙ z, tt));
           }
+
+-- what the search for the end of a run goes on by
+pub ruleset running = (equal_start, equal_differs, equal_more, equal_end)

@@ -14,13 +14,14 @@ use Rattle.gfa_spec.specs.Bytes.{sum, count}
 use Rattle.gfa_spec.specs.Reading.{Step, Path}
 use Rattle.gfa_spec.specs.Records.{is_self_link, self_links}
 use Rattle.gfa_spec.specs.Runs.{bit, pairs, same_node, same_step, over_paths, same_node_pairs, same_step_pairs}
-use Rattle.gfa_spec.proofs.Counting.{count_one, count_append}
+use Rattle.gfa_spec.proofs.Counting.{bit_byte, count_one, count_append}
 use Rattle.gfa_spec.proofs.Runs.{pairs_none, pairs_cons}
 use Rattle.tables.specs.Entries.{entries_at}
 use Rattle.tables.specs.Tables.{Tables}
 use Rattle.tables.specs.ByNumber.{path_no, step_no, links_to, paths_from, steps_from, step_of, link_of, StepIs, LinkIs, PathIs}
 use Rattle.tables.proofs.ByNumber.{links_more, paths_all, paths_next, paths_none, steps_next, steps_length, links_zero}
 use Rattle.runs.specs.Counts.{PairsIs, over_rows, PairTotals}
+use mir.Val.{bool_byte}
 
 -- ---- the pairs of a step list
 
@@ -64,10 +65,12 @@ module _ {text work : List ℕ} {b : Bases} {first end : ℕ} where
 
   module _ {j nodes steps : ℕ} (s : Pairing text work b first end j nodes steps) where
     pub pairing_more : {last here : StepWords} {y z : ℕ} {q r : Bool} → j < end → StepIs text work b (j - 1) last → StepIs text work b j here
-        → q ≡ same_node (step_of text last) (step_of text here) → (y ≡ bit q) × (y ≤ 1)
-        → r ≡ same_step (step_of text last) (step_of text here) → (z ≡ bit r) × (z ≤ 1)
+        → q ≡ same_node (step_of text last) (step_of text here) → y ≡ bool_byte q
+        → r ≡ same_step (step_of text last) (step_of text here) → z ≡ bool_byte r
         → Pairing text work b first end (j + 1) (nodes + y) (steps + z)
-    pairing_more u f g q y r z =
+    pairing_more u f g q n r m =
+        let y = bit_byte _ n in
+        let z = bit_byte _ m in
         record {
           low = omega (arith, s.low);
           high = omega arith;
@@ -82,6 +85,9 @@ module _ {text work : List ℕ} {b : Bases} {first end : ℕ} where
           steps = paired_end s.on_steps u;
           few = (omega (arith, s.on_nodes.few, s.high), omega (arith, s.on_steps.few, s.high));
         }
+
+-- what the count of pairs goes on by
+pub ruleset pairing = (pairing_start, pairing_more, pairing_end)
 
 -- ---- sums over the paths
 
@@ -118,16 +124,20 @@ module _ {text work : List ℕ} {b : Bases} where
   unfolding count
   tallied_start = record { few = omega arith; so_far = rw links_zero refl }
 
-  pub tallied_more : {i x y : ℕ} {l : LinkWords} {r : Bool} → Tallied text work b i x → LinkIs text work b i l → r ≡ is_self_link (link_of text l) → (y ≡ bit r) × (y ≤ 1)
+  pub tallied_more : {i x y : ℕ} {l : LinkWords} {r : Bool} → Tallied text work b i x → LinkIs text work b i l → r ≡ is_self_link (link_of text l) → y ≡ bool_byte r
       → Tallied text work b (i + 1) (x + y)
-  tallied_more {i} {x} {y} s q e f =
+  tallied_more {i} {x} {y} s q e n =
+      let f = bit_byte _ n in
       record {
-        few = omega (arith, s.few);
+        few = omega (arith, s.few, f.1);
         so_far = rw (links_more, count_append, count_one, q.link, ← s.so_far, ← e, ← f.0);
       }
 
   pub tallied_end : {i n x : ℕ} → i ≤ n → n ≤ i → Tallied text work b i x → x ≡ count is_self_link (links_to text work b n)
   tallied_end {i} {n} l h s = let e : i ≡ n = omega arith in rw (← e) s.so_far
+
+-- what the count of self-links goes on by
+pub ruleset tallying = (tallied_start, tallied_more, tallied_end)
 
 -- ---- the tables and the entries
 

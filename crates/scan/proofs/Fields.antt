@@ -6,8 +6,8 @@ use mathlib.Core.List.{List}
 use mathlib.Core.Path.{◌≡◌, ap}
 use lib.ListN.{length}
 use lib.Seq.{slice}
-use Rattle.scan.specs.declared.places.Field.{Field}
-use Rattle.scan.specs.declared.places.Field.TheVariants.{Found, Missing}
+use Rattle.std.specs.Prelude.{Option, None, Some}
+use Rattle.scan.specs.declared.places.Place.{Place}
 use Rattle.gfa_spec.specs.Bytes.{part, split, nth}
 use Rattle.gfa_spec.specs.Reading.{fields, field, nowhere}
 use Rattle.scan.specs.Places.{FirstIs, FoundAt, FewFields, FieldIs, part_at}
@@ -21,22 +21,21 @@ pub record FieldSearch (text : List ℕ) (start size k at left : ℕ) : Type 0 w
   pub count : length (fields (part_at text start size)) + left ≡ k + length (split 9 at (slice at (start + size) text))
   pub same : nth k (fields (part_at text start size)) nowhere ≡ nth left (split 9 at (slice at (start + size) text)) nowhere
 
-module _ {text : List ℕ} {start size k : ℕ} where
-  pub field_start : start + size ≤ length text → FieldSearch text start size k start k
+module _ {text : List ℕ} {line : Place} {k : ℕ} where
+  pub field_start : line.start + line.size ≤ length text → FieldSearch text line.start line.size k line.start k
   unfolding fields part_at
   field_start h =
-      let e = part_slice start size text in
+      let e = part_slice line.start line.size text in
       record { inside = h; low = omega arith; high = omega arith; count = rw e (omega arith); same = rw e }
 
-  module _ {at left tab : ℕ} (s : FieldSearch text start size k at left) (f : FirstIs text 9 at (start + size) tab) where
-    pub field_missing : 0 < left → tab ≡ start + size → FieldIs text start size k Missing
+  module _ {at left tab : ℕ} (s : FieldSearch text line.start line.size k at left) (f : FirstIs text 9 at (line.start + line.size) tab) where
+    pub field_missing : 0 < left → tab ≡ line.start + line.size → FieldIs text line k None
     field_missing h e = record { says = record { few = omega (arith, rw (split_last f (omega arith)) at s.count) } }
 
-    pub field_more : 0 < left → (tab ≡ start + size → ⊥) → FieldSearch text start size k (tab + 1) (left - 1)
+    pub field_more : {rest : ℕ} → left ≡ suc rest → (tab ≡ line.start + line.size → ⊥) → FieldSearch text line.start line.size k (tab + 1) rest
     unfolding nth
-    field_more h e =
+    field_more l e =
         let m = split_more f (omega arith) s.inside in
-        let l : left ≡ suc (left - 1) = omega arith in
         record {
           inside = s.inside;
           low = omega arith;
@@ -45,7 +44,7 @@ module _ {text : List ℕ} {start size k : ℕ} where
           same = rw add-one (rw (m, l) at s.same);
         }
 
-    pub field_found : left ≤ 0 → FieldIs text start size k (Found at (tab - at))
+    pub field_found : left ≤ 0 → FieldIs text line k (Some (record { start = at; size = tab - at }))
     unfolding nth part_at
     field_found h =
         let z : left ≡ 0 = omega arith in
@@ -64,9 +63,9 @@ unfolding field part_at
 field_bytes f = ap (λ p. p.bytes) f.field
 
 -- what the answer says, by its cases
-module _ {text : List ℕ} {start size k : ℕ} {r : Field} (h : FieldIs text start size k r) where
-  pub found_at : {at long : ℕ} → r ≡ Found at long → FoundAt text start size k at long
+module _ {text : List ℕ} {line : Place} {k : ℕ} {r : Option Place} (h : FieldIs text line k r) where
+  pub found_at : {f : Place} → r ≡ Some f → FoundAt text line.start line.size k f.start f.size
   found_at e = rw e at h.says
 
-  pub few_fields : r ≡ Missing → FewFields text start size k
+  pub few_fields : r ≡ None → FewFields text line.start line.size k
   few_fields e = rw e at h.says

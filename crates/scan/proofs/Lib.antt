@@ -6,3 +6,4 @@ pub mod Fields
 pub mod SameNames
 pub mod SequenceLengths
 pub mod Numerals
+pub mod Orientations

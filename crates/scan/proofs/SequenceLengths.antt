@@ -8,11 +8,11 @@ use Rattle.gfa_spec.specs.Bytes.{same, star}
 use Rattle.gfa_spec.specs.Sequences.{sequence_len}
 
 -- a sequence that is `*` has length 0
-pub star_length : (seq : List ℕ) → same seq star ≡ true → sequence_len seq ≡ 0
+pub length_of_star : (seq : List ℕ) → same seq star ≡ true → 0 ≡ sequence_len seq
 unfolding sequence_len
-star_length seq e = rw e
+length_of_star seq e = rw e
 
 -- any other has its own
-pub other_length : (seq : List ℕ) → same seq star ≡ false → sequence_len seq ≡ length seq
+pub length_of_other : (seq : List ℕ) → same seq star ≡ false → length seq ≡ sequence_len seq
 unfolding sequence_len
-other_length seq e = rw e
+length_of_other seq e = rw e

@@ -1,4 +1,5 @@
 -- What the contracts on places, names and numbers in a text say.
 pub mod Places
+pub mod Orientations
 pub mod Numbers
 pub mod Differences

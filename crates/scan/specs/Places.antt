@@ -1,13 +1,21 @@
 -- Places in a text: what the reader's starts and lengths stand for. Document 01, "Forms that change": strings become offsets into the text.
-use Rattle.std.specs.Prelude.{ℕ, suc, ◌+◌, ◌-◌, ◌≤◌, ◌<◌, Bool, cond, List, [], ◌∷◌, map, ◌≡◌, eqb, length, drop}
-use Rattle.scan.specs.declared.places.Field.{Field}
-use Rattle.scan.specs.declared.places.Field.TheVariants.{Found, Missing}
-use Rattle.gfa_spec.specs.Bytes.{Part, part, same, star, split, nth}
+use Rattle.std.specs.Prelude.{ℕ, suc, ◌+◌, ◌-◌, ◌≤◌, ◌<◌, cond, List, [], ◌∷◌, map, ◌≡◌, eqb, length, drop}
+use Rattle.std.specs.Prelude.{Option, None, Some}
+use Rattle.scan.specs.declared.places.Place.{Place}
+use Rattle.gfa_spec.specs.Bytes.{Part, part, split, nth}
 use Rattle.gfa_spec.specs.Reading.{drop_final, drop_return, line_of, fields, nowhere}
 
 -- the part of the text with this start and this length
 unfoldable pub part_at : List ℕ → ℕ → ℕ → Part
 part_at text start size = record { at = start; bytes = part start size text }
+
+-- the bytes of a place
+abbrev pub bytes_in : List ℕ → Place → List ℕ
+bytes_in text p = part p.start p.size text
+
+-- it lies within the text
+abbrev pub Inside : List ℕ → Place → Type 0
+Inside text p = p.start + p.size ≤ length text
 
 -- how many bytes stand before the first b
 unfoldable pub before : ℕ → List ℕ → ℕ
@@ -47,18 +55,10 @@ pub record FewFields (text : List ℕ) (start size k : ℕ) : Type 0 where
   pub few : length (fields (part_at text start size)) ≤ k
 
 -- by the cases of the answer
-abbrev pub FieldSays : List ℕ → ℕ → ℕ → ℕ → Field → Type 0
-FieldSays text start size k (Found at long) = FoundAt text start size k at long
-FieldSays text start size k Missing = FewFields text start size k
+abbrev pub FieldSays : List ℕ → Place → ℕ → Option Place → Type 0
+FieldSays text line k (Some f) = FoundAt text line.start line.size k f.start f.size
+FieldSays text line k None = FewFields text line.start line.size k
 
 -- What the answer to a search for field k says.
-pub record FieldIs (text : List ℕ) (start size k : ℕ) (r : Field) : Type 0 where
-  pub says : FieldSays text start size k r
-
--- Whether two names, each a start and a length, are the same bytes.
-pub record SameIs (text : List ℕ) (a m b n : ℕ) (r : Bool) : Type 0 where
-  pub answer : r ≡ same (part a m text) (part b n text)
-
--- Whether a part of the text is `*`.
-pub record StarIs (text : List ℕ) (start size : ℕ) (r : Bool) : Type 0 where
-  pub answer : r ≡ same (part start size text) star
+pub record FieldIs (text : List ℕ) (line : Place) (k : ℕ) (r : Option Place) : Type 0 where
+  pub says : FieldSays text line k r

@@ -3,5 +3,6 @@
 
 pub mod names;
 pub mod numbers;
+pub mod orientation;
 pub mod places;
 pub mod sequences;

@@ -1,30 +1,29 @@
 // Places in a text: bytes, lines and fields.
 ghost use Rattle.std.specs.Prelude.{◌+◌, ◌≤◌, ◌<◌, length, ◌≡◌};
-ghost use Rattle.gfa_spec.specs.Bytes.{part};
-ghost use Rattle.scan.specs.Places.{FirstIs, TrimmedIs, NextLineIs, FieldIs};
+ghost use Rattle.scan.specs.Places.{Inside, bytes_in, FirstIs, TrimmedIs, NextLineIs, FieldIs};
 
-// A line: its first byte, its length without the line end, and where the next one starts.
+// A part of a text.
+#[derive(Clone, Copy)]
+pub struct Place {
+    pub start: usize,
+    pub size: usize,
+}
+
+impl Place {
+    // Its bytes.
+    pub fn of(self, text: &[u8]) -> &[u8]
+        requires { Inside text.now self }
+        ensures { result.now ≡ bytes_in text.now self }
+    {
+        &text[self.start..self.start + self.size]
+    }
+}
+
+// A line without its line end, and where the next one starts.
 #[derive(Clone, Copy)]
 pub struct Line {
-    pub start: usize,
-    pub length: usize,
+    pub place: Place,
     pub next: usize,
-}
-
-// A field of a line by its start and its length, where the line has so many.
-#[derive(Clone, Copy)]
-pub enum Field {
-    Found(usize, usize),
-    Missing,
-}
-
-// The `n` bytes of `text` from `from` on.
-pub fn bytes_at(text: &[u8], from: usize, n: usize) -> &[u8]
-    requires { from + n ≤ length text.now }
-    ensures { result.now ≡ part from n text.now }
-{
-    let end = from + n;
-    &text[from..end]
 }
 
 // The first place of `byte` from `from` up to `to`, or `to`.
@@ -32,14 +31,12 @@ pub fn find(text: &[u8], byte: u8, from: usize, to: usize) -> usize
     requires { (from ≤ to) × (to ≤ length text.now) }
     ensures { FirstIs text.now byte from to result }
 {
-    let mut i = from;
-    while i < to {
+    for i in from..to {
         if text[i] == byte {
             return i;
         }
-        i += 1;
     }
-    i
+    to
 }
 
 // The length of the line from `start` to `end` without its carriage return.
@@ -50,7 +47,7 @@ pub fn trimmed(text: &[u8], start: usize, end: usize) -> usize
     if start == end {
         return 0;
     }
-    if text[end - 1] == 13 {
+    if text[end - 1] == b'\r' {
         return end - 1 - start;
     }
     end - start
@@ -59,40 +56,34 @@ pub fn trimmed(text: &[u8], start: usize, end: usize) -> usize
 // The line that starts at `at`.
 pub fn next_line(text: &[u8], at: usize) -> Line
     requires { at < length text.now }
-    ensures { NextLineIs text.now at result.start result.length result.next }
+    ensures { NextLineIs text.now at result.place.start result.place.size result.next }
 {
-    let end = find(text, 10, at, text.len());
+    let end = find(text, b'\n', at, text.len());
     let size = trimmed(text, at, end);
-    if end < text.len() {
-        return Line {
-            start: at,
-            length: size,
-            next: end + 1,
-        };
-    }
+    let next = if end < text.len() { end + 1 } else { end };
     Line {
-        start: at,
-        length: size,
-        next: end,
+        place: Place { start: at, size },
+        next,
     }
 }
 
-// Field `k`, counted from 0, of the line that starts at `start`.
-pub fn field_at(text: &[u8], start: usize, size: usize, k: usize) -> Field
-    requires { start + size ≤ length text.now }
-    ensures { FieldIs text.now start size k result }
+// Field `k` of a line, counted from 0, where the line has so many.
+pub fn field_at(text: &[u8], line: Place, k: usize) -> Option<Place>
+    requires { Inside text.now line }
+    ensures { FieldIs text.now line k result }
 {
-    let end = start + size;
-    let mut at = start;
-    let mut left = k;
-    while 0 < left {
-        let tab = find(text, 9, at, end);
+    let end = line.start + line.size;
+    let mut at = line.start;
+    for _ in 0..k {
+        let tab = find(text, b'\t', at, end);
         if tab == end {
-            return Field::Missing;
+            return None;
         }
         at = tab + 1;
-        left -= 1;
     }
-    let tab = find(text, 9, at, end);
-    Field::Found(at, tab - at)
+    let tab = find(text, b'\t', at, end);
+    Some(Place {
+        start: at,
+        size: tab - at,
+    })
 }

@@ -1,25 +1,17 @@
 -- Laws of a repeated string, for the writer that writes it once and copies on what stands there. Assumes nothing.
-use Prim.Native.Nat.{ℕ, zero, suc, ◌+◌, ◌-◌, ◌*◌, ◌/◌, ◌≤◌, ◌<◌, min}
+use Prim.Native.Nat.{ℕ, zero, suc, ◌+◌, ◌-◌, ◌*◌, ◌≤◌, ◌<◌, min}
 use native.Mathlib.Omega.{arith}
-use native.Mathlib.Nat.{zero-add, suc-add, mul-zero, zero-mul, one-mul, suc-mul, add-mul, mul_comm, le-div_iff_mul-le, div-lt_iff_lt-mul, lt_of_mul-lt-mul_right}
+use native.Mathlib.Nat.{zero-add, suc-add, mul-zero, zero-mul, one-mul, suc-mul, add-mul, mul_comm, lt_of_mul-lt-mul_right}
 use mathlib.Core.Path.{◌≡◌, sym, ap, ◌∙◌}
 use mathlib.Core.List.{List, ◌++◌, append_assoc}
 use lib.ListN.{length, take, drop, length-append}
 use lib.Seq.{sets, length-sets, sets-eq, length-take-le, take-take, take-add, take-append-le, drop_at}
 use Rattle.gfa_spec.specs.Bytes.{repeat, part}
 use Rattle.writers.specs.Writers.{Wrote}
-use Rattle.gfa_spec.proofs.Parts.{by_order, length_part}
+use Rattle.gfa_spec.proofs.Parts.{by_order}
 use Rattle.writers.proofs.Writing.{sets_append, turned}
 
--- ---- a product and a limit
-
--- a product is within the limit where a factor is within the limit divided by the other
-pub product_within : (n times limit : ℕ) → 0 < n → times ≤ limit / n → n * times ≤ limit
-product_within n times limit h k = rw mul_comm ((le-div_iff_mul-le h).0 k)
-
--- and only there
-pub product_past : (n times limit : ℕ) → 0 < n → limit / n < times → limit < n * times
-product_past n times limit h k = rw mul_comm ((div-lt_iff_lt-mul h).0 k)
+-- ---- a limit
 
 -- the limit may be left out where what fits is within it
 limit_out : (p room limit at : ℕ) → min (min p limit) (min room limit - at) ≡ min p (min room limit - at)
@@ -37,9 +29,9 @@ unfolding repeat
 length_repeat zero unit = rw zero-mul
 length_repeat (suc k) unit = rw (length-append, length_repeat k unit, suc-mul) (omega arith)
 
--- the length of a repeated part
-pub length_repeated : (times from n : ℕ) (text : List ℕ) → from + n ≤ length text → length (repeat times (part from n text)) ≡ n * times
-length_repeated times from n text h = rw (length_repeat, length_part from n text h, mul_comm)
+-- the length of a repeated string
+pub length_repeated : (times : ℕ) (unit : List ℕ) → length (repeat times unit) ≡ length unit * times
+length_repeated times unit = rw (length_repeat, mul_comm)
 
 -- repeated so often, and then so often again
 repeat_add : (j k : ℕ) (unit : List ℕ) → repeat (j + k) unit ≡ repeat j unit ++ repeat k unit

@@ -5,10 +5,15 @@ use mathlib.Core.Path.{◌≡◌, ap, ◌∙◌}
 use mathlib.Core.List.{List, [], ◌∷◌, ◌++◌, reverse, reverse-cons}
 use lib.ListN.{length, get_or, take, length-map, length-reverse, get_or-map, get_or-append}
 use lib.Seq.{get_or_at}
-use borrow.Author.Tests.{eq-eqb, ne_eqb, le-leb, lt-leb}
+use borrow.Author.Tests.{le-leb, lt-leb}
 use Rattle.gfa_spec.specs.Bytes.{bytes, part}
+use Rattle.scan.specs.declared.orientation.Orientation.TheVariants.{Forward, Reverse}
+use Rattle.scan.specs.Orientations.{sign_of}
+use Rattle.writers.specs.declared.writer.Writer.{Writer}
+use Rattle.writers.specs.Writers.{Puts}
+use Rattle.writers.proofs.Writing.{◌▷◌}
 use Rattle.gfa_spec.specs.Sequences.{complement, reverse_complement, oriented, sequence_preview}
-use Rattle.gfa_spec.proofs.Parts.{by_order, length_part, get_or_part}
+use Rattle.gfa_spec.proofs.Parts.{by_order, length_part}
 
 -- ---- reversed and complemented
 
@@ -35,28 +40,19 @@ pub length_reversed : (comp : ℕ → ℕ) (l : List ℕ) → length (reverse_co
 unfolding reverse_complement
 length_reversed comp l = simp (length-map, length-reverse)
 
--- a byte of the reverse complement of a part
-pub get_or_reversed : (from n i : ℕ) (text : List ℕ) → from + n ≤ length text → i < n
-    → get_or (reverse_complement complement (part from n text)) i 0 ≡ complement (get_or text (from + n - 1 - i) 0)
+-- a byte of the reverse complement
+pub get_or_reversed : (s : List ℕ) (i : ℕ) → i < length s → get_or (reverse_complement complement s) i 0 ≡ complement (get_or s (length s - 1 - i) 0)
 unfolding reverse_complement complement
-get_or_reversed from n i text h k =
-    let long = length_part from n text h in
-    let place : from + (n - 1 - i) ≡ from + n - 1 - i = omega arith in
-    get_or-map complement (reverse (part from n text)) i 0
-    ∙ ap complement
-    (get_or_reverse (part from n text) i (n - 1 - i) 0 (omega arith)
-    ∙ get_or_part from n (n - 1 - i) text (omega arith)
-    ∙ ap (λ (p : ℕ). get_or text p 0) place)
+get_or_reversed s i h = get_or-map complement (reverse s) i 0 ∙ ap complement (get_or_reverse s i (length s - 1 - i) 0 (omega arith))
 
--- with - reversed and complemented
-pub oriented_back : (comp : ℕ → ℕ) (o : ℕ) (seq : List ℕ) → o ≡ 45 → oriented comp o seq ≡ reverse_complement comp seq
+-- with - reversed and complemented, with + as it is
+pub puts_reverse : {a b : Writer} (s : List ℕ) → Puts a (reverse_complement complement s) b → Puts a (oriented complement (sign_of Reverse) s) b
 unfolding oriented
-oriented_back comp o seq h = rw (eq-eqb o 45 h)
+puts_reverse s p = p
 
--- else as it is
-pub oriented_on : (comp : ℕ → ℕ) (o : ℕ) (seq : List ℕ) → (o ≡ 45 → ⊥) → oriented comp o seq ≡ seq
+pub puts_forward : {a b : Writer} (s : List ℕ) → Puts a s b → Puts a (oriented complement (sign_of Forward) s) b
 unfolding oriented
-oriented_on comp o seq h = rw (ne_eqb o 45 h)
+puts_forward s p = p
 
 -- ---- what the report says of a sequence
 
@@ -69,7 +65,10 @@ preview_short seq h = rw (le-leb (length seq) 48 h)
 pub preview_part : (from n : ℕ) (text : List ℕ) → from + n ≤ length text → n ≤ 48 → sequence_preview (part from n text) ≡ part from n text
 preview_part from n text inside short = let long = length_part from n text inside in preview_short (part from n text) (omega arith)
 
+pub puts_short : {a b : Writer} (s : List ℕ) → length s ≤ 48 → Puts a s b → Puts a (sequence_preview s) b
+puts_short s h p = rw (preview_short s h) p
+
 -- a longer one by its front
-pub preview_long : (seq : List ℕ) → 48 < length seq → sequence_preview seq ≡ take 48 seq ++ bytes "..."
+pub puts_long : {a b c : Writer} (s : List ℕ) → 48 < length s → Puts a (take 48 s) b → Puts b (bytes "...") c → Puts a (sequence_preview s) c
 unfolding sequence_preview
-preview_long seq h = rw (lt-leb (length seq) 48 h)
+puts_long s h p q = rw (lt-leb (length s) 48 h) (p ▷ q)

@@ -3,6 +3,7 @@ ghost use Rattle.std.specs.Prelude.{◌≡◌};
 ghost use Rattle.gfa_spec.specs.Sequences.{complement as complement_of};
 
 // A and a give T, T and t give A, C and c give G, G and g give C, N and n give N; any other byte stays.
+#[tactic(auto, unfolding(gfa_spec::specs::Sequences::complement))]
 pub fn complement(b: u8) -> u8
     ensures { result ≡ complement_of b }
 {

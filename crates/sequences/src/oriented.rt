@@ -1,49 +1,31 @@
 // A sequence as a step of either orientation spells it.
-ghost use Rattle.std.specs.Prelude.{◌+◌, ◌≤◌, length};
-ghost use Rattle.gfa_spec.specs.Bytes.{part};
 ghost use Rattle.gfa_spec.specs.Sequences.{complement as complement_of, reverse_complement, oriented};
-ghost use Rattle.writers.specs.Writers.{Wrote};
+ghost use Rattle.scan.specs.Orientations.{sign_of};
+ghost use Rattle.writers.specs.Writers.{Puts};
 
 use crate::complement::complement;
-use writers::bytes::{advance, fitting, put_bytes};
+use scan::orientation::Orientation;
+use writers::writer::Writer;
 
-// A part of the text reversed, each byte complemented.
-pub fn put_reversed(
-    out: &mut [u8],
-    at: usize,
-    limit: usize,
-    text: &[u8],
-    from: usize,
-    n: usize,
-) -> usize
-    requires { from + n ≤ length text.now }
-    ensures { Wrote limit out.old at (reverse_complement complement_of (part from n text.now)) out.new result }
+// A sequence reversed, each byte complemented.
+pub fn put_reversed(w: &mut Writer, s: &[u8])
+    ensures { Puts w.old (reverse_complement complement_of s.now) w.new }
 {
-    let room = fitting(out.len(), at, limit, n);
-    let last = from + n;
-    let mut i = 0;
-    while i < room {
-        out[at + i] = complement(text[last - 1 - i]);
-        i += 1;
+    let at = w.at;
+    let room = w.room(s.len());
+    let out = &mut *w.out;
+    for i in 0..room {
+        out[at + i] = complement(s[s.len() - 1 - i]);
     }
-    advance(at, n, limit)
+    w.skip(s.len());
 }
 
-// A part of the text as a step of this orientation spells it.
-pub fn put_oriented(
-    out: &mut [u8],
-    at: usize,
-    limit: usize,
-    text: &[u8],
-    from: usize,
-    n: usize,
-    orientation: usize,
-) -> usize
-    requires { from + n ≤ length text.now }
-    ensures { Wrote limit out.old at (oriented complement_of orientation (part from n text.now)) out.new result }
+// A sequence as a step of this orientation spells it.
+pub fn put_oriented(w: &mut Writer, s: &[u8], orientation: Orientation)
+    ensures { Puts w.old (oriented complement_of (sign_of orientation) s.now) w.new }
 {
-    if orientation == 45 {
-        return put_reversed(out, at, limit, text, from, n);
+    match orientation {
+        Orientation::Forward => w.put(s),
+        Orientation::Reverse => put_reversed(w, s),
     }
-    put_bytes(out, at, limit, text, from, n)
 }

@@ -1,27 +1,20 @@
 // A sequence as the report shows it.
-ghost use Rattle.std.specs.Prelude.{◌+◌, ◌≤◌, length};
-ghost use Rattle.gfa_spec.specs.Bytes.{part};
 ghost use Rattle.gfa_spec.specs.Sequences.{sequence_preview};
-ghost use Rattle.writers.specs.Writers.{Wrote};
+ghost use Rattle.writers.specs.Writers.{Puts};
 
-use writers::bytes::{put_bytes, put_constant};
+use writers::writer::Writer;
 
-// A sequence that is a part of the text, as the report shows it: its first 48 bytes, and `...` if it is longer.
-#[tactic(auto, using(crate::proofs::SequenceLaws::preview_part))]
-pub fn put_preview(
-    out: &mut [u8],
-    at: usize,
-    limit: usize,
-    text: &[u8],
-    from: usize,
-    n: usize,
-) -> usize
-    requires { from + n ≤ length text.now }
-    ensures { Wrote limit out.old at (sequence_preview (part from n text.now)) out.new result }
+// How many bytes are shown.
+const SHOWN: usize = 48;
+
+// Its first 48 bytes, and `...` if it is longer.
+pub fn put_preview(w: &mut Writer, s: &[u8])
+    ensures { Puts w.old (sequence_preview s.now) w.new }
 {
-    if n <= 48 {
-        return put_bytes(out, at, limit, text, from, n);
+    if s.len() <= SHOWN {
+        w.put(s);
+    } else {
+        w.put(&s[..SHOWN]);
+        w.put(b"...");
     }
-    let next = put_bytes(out, at, limit, text, from, 48);
-    put_constant(out, next, limit, b"...")
 }

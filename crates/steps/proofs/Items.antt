@@ -1,16 +1,19 @@
 -- The items of a P line, put into the step table. Assumes nothing.
+use Rattle.std.specs.Prelude.{Ok, Err, Option, None, Some}
+use Rattle.refusals.specs.declared.reason.Reason.TheVariants.{BadStep}
+use Rattle.scan.specs.declared.orientation.Orientation.{Orientation}
+use Rattle.scan.specs.Orientations.{sign_of, OrientationIs}
+use Rattle.scan.proofs.Orientations.{sign_is}
 use Prim.Native.Nat.{ℕ, suc, ◌+◌, ◌*◌, ◌-◌, ◌≤◌, ◌<◌}
 use native.Mathlib.Nat.{add_assoc, mul-suc}
 use native.Mathlib.Numerals.{add-one}
 use native.Mathlib.Omega.{arith}
-use mathlib.Core.Bool.{Bool, true, false, not, and-false}
+use mathlib.Core.Bool.{false, and-false}
 use mathlib.Core.List.{List, [], ◌∷◌, ◌++◌, append-nil, drop_last}
 use mathlib.Core.Logic.{inl}
 use mathlib.Core.Path.{◌≡◌, refl, ap, sym, ◌∙◌}
 use lib.ListN.{length, get_or}
 use lib.Seq.{sets, slice, slice_empty, length-slice, length-sets}
-use borrow.Author.Tests.{not-true, not-false}
-use Rattle.steps.specs.declared.checked.Checked.TheVariants.{Value, Refused}
 use Rattle.gfa_spec.specs.Bytes.{part, is_empty, last_byte}
 use Rattle.gfa_spec.specs.Reading.{Step, Read, refused, accepted, then, is_orientation, is_step, step_of, parse_items}
 use Rattle.scan.specs.Places.{part_at}
@@ -50,7 +53,7 @@ add_none (refused n) = refl
 add_none (accepted ys) = refl
 
 -- an empty item is skipped
-pub item_none : {text work : List ℕ} {base n from to : ℕ} → from ≡ to → ItemIs text work work base n from to (Value n)
+pub item_none : {text work : List ℕ} {base n from to : ℕ} → from ≡ to → ItemIs text work work base n from to (Ok n)
 unfolding parse_items item_steps part_at part is_empty
 item_none {text} {work} {from = from} e =
     let z : from - from ≡ 0 = omega arith in
@@ -75,22 +78,23 @@ cut text from to some inside = part_range from to text (omega arith) ∙ last_by
 
 module _ {text work work' : List ℕ} {base n from to : ℕ} (ordered : from ≤ to) (inside : to ≤ length text) (some : from ≡ to → ⊥) where
   -- its last byte is no orientation, or there is no name before it
-  pub item_no_mark : {r : Bool} → r ≡ is_orientation (get_or text (to - 1) 0) → not r ≡ true → ItemIs text work work' base n from to (Refused 13)
+  pub item_no_mark : {r : Option Orientation} → OrientationIs (get_or text (to - 1) 0) r → r ≡ None → ItemIs text work work' base n from to (Err BadStep)
   unfolding parse_items is_step part_at
-  item_no_mark e f = record { says = record { read = λ more. rw (cut text from to (omega arith) inside, snoc_not_empty, last_snoc, sym e ∙ not-true _ f) } }
+  item_no_mark e f = record { says = record { read = λ more. rw (cut text from to (omega arith) inside, snoc_not_empty, last_snoc, (rw f at e.says)) } }
 
-  pub item_no_name : from ≡ to - 1 → ItemIs text work work' base n from to (Refused 13)
+  pub item_no_name : from ≡ to - 1 → ItemIs text work work' base n from to (Err BadStep)
   unfolding parse_items is_step part_at is_empty
   item_no_name e = record { says = record { read = λ more. rw (cut text from to (omega arith) inside, snoc_not_empty, drop_snoc, ← e, slice_empty, and-false) } }
 
   -- a step is put into the table
-  pub item_put : {r : Bool} {o : ℕ} → r ≡ is_orientation (get_or text (to - 1) 0) → not r ≡ false → (from ≡ to - 1 → ⊥) → o ≡ get_or text (to - 1) 0 →
-      base + 3 * n + 3 ≤ length work → work' ≡ sets work (base + 3 * n) (from ∷ (to - 1 - from) ∷ o ∷ []) → ItemIs text work work' base n from to (Value (n + 1))
+  pub item_put : {r : Option Orientation} {o : Orientation} → OrientationIs (get_or text (to - 1) 0) r → r ≡ Some o → (from ≡ to - 1 → ⊥) →
+      base + 3 * n + 3 ≤ length work → work' ≡ sets work (base + 3 * n) (from ∷ (to - 1 - from) ∷ sign_of o ∷ []) → ItemIs text work work' base n from to (Ok (n + 1))
   unfolding parse_items is_step item_steps step_of add_steps part_at
-  item_put {o = o} is f e b h q =
-      let t = sym is ∙ not-false _ f in
+  item_put {o = o} is f e h q =
+      let b : get_or text (to - 1) 0 ≡ sign_of o = rw f at is.says in
+      let t = ap is_orientation b ∙ sign_is o in
       let at = base + 3 * n in
-      let row = from ∷ (to - 1 - from) ∷ o ∷ [] in
+      let row = from ∷ (to - 1 - from) ∷ sign_of o ∷ [] in
       let only = only_put row work at in
       let low = only_kept base at only (inl (omega arith), tt) in
       let m = mul-suc 3 n in
@@ -104,17 +108,17 @@ module _ {text work work' : List ℕ} {base n from to : ℕ} (ordered : from ≤
                   steps_snoc text (sets work at row) base n
                   ∙ rw (
                     steps_kept low text base n (omega arith) (omega arith),
-                    step_put text work at from (to - 1 - from) o h,
-                    b,
+                    step_put text work at from (to - 1 - from) (sign_of o) h,
                     part_range from (to - 1) text (omega arith),
                     cut text from to (omega arith) inside,
                     snoc_not_empty,
                     drop_snoc,
                     last_snoc,
+                    b,
                   );
               rows = λ e.
                   each_more (step_rows_kept low text base n (omega arith) (omega arith) e)
-                  (step_row_put text work at from (to - 1 - from) o h (omega arith) (rw b t));
+                  (step_row_put text work at from (to - 1 - from) (sign_of o) h (omega arith) (sign_is o));
               low = omega arith;
               high = omega arith;
               one = omega arith;

@@ -1,104 +1,66 @@
 -- The fields that hold steps and orientations. Assumes nothing.
-use Prim.Native.Nat.{ℕ, suc, ◌+◌, ◌-◌, ◌≤◌, ◌<◌}
-use native.Mathlib.Numerals.{add-one}
+use Rattle.std.specs.Prelude.{Result, Ok}
+use Rattle.refusals.specs.declared.reason.Reason.{Reason}
+use Prim.Native.Nat.{ℕ, suc, ◌+◌, ◌≤◌}
 use native.Mathlib.Omega.{arith}
 use mathlib.Core.Bool.{Bool, true, false, cond}
-use mathlib.Core.List.{List, [], ◌∷◌}
+use mathlib.Core.List.{List, []}
 use mathlib.Core.Path.{◌≡◌, refl, sym, ◌∙◌}
 use lib.Dec.{ltb}
-use lib.ListN.{length, get_or}
+use lib.ListN.{length}
 use borrow.Author.Tests.{lt-ltb, le-ltb}
-use Rattle.steps.specs.declared.checked.Checked.{Checked}
-use Rattle.steps.specs.declared.checked.Checked.TheVariants.{Value, Refused}
 use Rattle.gfa_spec.specs.Bytes.{Part, part, same, star, is_empty, split, nth}
-use Rattle.gfa_spec.specs.Reading.{Kind, P, W, Step, path, Read, refused, accepted, then, fields, nowhere, is_orientation, parse_orientation, parse_items, parse_psteps, parse_wsteps, parse_p, parse_w, non_empty, walk}
-use Rattle.scan.specs.Places.{part_at, StarIs, FoundAt, FewFields}
+use Rattle.gfa_spec.specs.Reading.{Kind, P, W, Step, path, Read, refused, accepted, then, fields, nowhere, parse_items, parse_psteps, parse_wsteps, parse_p, parse_w, non_empty, walk}
+use Rattle.scan.specs.Places.{part_at, FoundAt, FewFields}
 use Rattle.work.specs.Rows.{rows_at}
-use Rattle.steps.specs.Checked.{checked_of}
 use Rattle.tables.specs.Steps.{steps_at}
 use Rattle.steps.specs.StepFields.{StepsPut, StepsIs}
 use Rattle.tables.specs.declared.kinds.PathKind.{PathKind}
 use Rattle.tables.specs.declared.kinds.PathKind.TheVariants as kinds
 use Rattle.tables.specs.Paths.{kind_in, column_of, short_of, steps_of, parse_path, path_fields}
-use Rattle.gfa_spec.proofs.Parts.{part_first, length_part}
+use Rattle.gfa_spec.proofs.Parts.{length_part}
 use Rattle.scan.proofs.LineEnds as ends
 use Rattle.work.proofs.Rows.{only_none, each_none}
-use Rattle.scan.proofs.SameNames.{one_byte}
 
 -- ---- answers
 
--- an answer that is a value, and one that is a refusal
-pub checked_value : (r : Read ℕ) {c : Checked} {n : ℕ} → c ≡ checked_of r → c ≡ Value n → r ≡ accepted n
-checked_value (refused k) e f = let z : ◌≡◌ {A = ℕ} 0 1 = cc in absurd (omega arith)
-checked_value (accepted m) e f = cc
-
-pub checked_refused : (r : Read ℕ) {c : Checked} {k : ℕ} → c ≡ checked_of r → c ≡ Refused k → r ≡ refused k
-checked_refused (refused k) e f = cc
-checked_refused (accepted m) e f = let z : ◌≡◌ {A = ℕ} 0 1 = cc in absurd (omega arith)
-
 -- what the answer to some steps says, by its cases
-module _ {text work work' : List ℕ} {base size : ℕ} {r : Read (List Step)} {c : Checked} (h : StepsIs text work work' base size r c) where
-  pub steps_put : {m : ℕ} → c ≡ Value m → StepsPut text work work' base size m r
+module _ {text work work' : List ℕ} {base size : ℕ} {r : Read (List Step)} {c : Result ℕ Reason} (h : StepsIs text work work' base size r c) where
+  pub steps_put : {m : ℕ} → c ≡ Ok m → StepsPut text work work' base size m r
   steps_put e = rw e at h.says
-
-  pub steps_refused : {k : ℕ} → c ≡ Refused k → r ≡ refused k
-  steps_refused e = rw e at h.says
-
--- ---- orientations
-
-module _ (text : List ℕ) (at size n : ℕ) (h : at + size ≤ length text) where
-  pub orientation_empty : size ≡ 0 → Refused n ≡ checked_of (parse_orientation n (part at size text))
-  unfolding parse_orientation part
-  orientation_empty e = rw e
-
-  pub orientation_long : 1 < size → Refused (n + 1) ≡ checked_of (parse_orientation n (part at size text))
-  unfolding parse_orientation
-  orientation_long e = rw (part_first at size text (omega arith) h, part_first (suc at) (size - 1) text (omega arith) (omega arith), add-one)
-
-  module _ (some : size ≡ 0 → ⊥) (one : size ≤ 1) {r : Bool} (o : r ≡ is_orientation (get_or text at 0)) where
-    only_byte : part at size text ≡ get_or text at 0 ∷ []
-    only_byte = one_byte text at size h (omega arith)
-
-    pub orientation_is : {v : ℕ} → r ≡ true → v ≡ get_or text at 0 → Value v ≡ checked_of (parse_orientation n (part at size text))
-    unfolding parse_orientation
-    orientation_is t e = rw (only_byte, sym o ∙ t, e)
-
-    pub orientation_not : r ≡ false → Refused (n + 1) ≡ checked_of (parse_orientation n (part at size text))
-    unfolding parse_orientation
-    orientation_not t = rw (only_byte, sym o ∙ t, add-one)
 
 -- ---- the steps of a P or W line
 
 -- no steps
-none_put : {text work : List ℕ} (base size : ℕ) {r : Read (List Step)} → r ≡ accepted [] → StepsIs text work work base size r (Value 0)
+none_put : {text work : List ℕ} (base size : ℕ) {r : Read (List Step)} → r ≡ accepted [] → StepsIs text work work base size r (Ok 0)
 unfolding steps_at rows_at
 none_put base size e = record { says = record { read = e; few = omega arith; rows = each_none; long = refl; only = only_none } }
 
-module _ {text : List ℕ} {start size : ℕ} {t : Bool} (i : StarIs text start size t) where
-  pub p_star : {work : List ℕ} {base : ℕ} → t ≡ true → StepsIs text work work base size (parse_psteps (part_at text start size)) (Value 0)
+module _ (text : List ℕ) (start size : ℕ) {t : Bool} (i : t ≡ same (part start size text) star) where
+  pub p_star : {work : List ℕ} {base : ℕ} → t ≡ true → StepsIs text work work base size (parse_psteps (part_at text start size)) (Ok 0)
   unfolding parse_psteps part_at
-  p_star {work} {base} e = none_put base size (rw (sym i.answer ∙ e))
+  p_star {work} {base} e = none_put base size (rw (sym i ∙ e))
 
-  pub p_items : {work work' : List ℕ} {base : ℕ} {c : Checked} → t ≡ false → StepsIs text work work' base size (parse_items (split 44 start (part start size text))) c →
+  pub p_items : {work work' : List ℕ} {base : ℕ} {c : Result ℕ Reason} → t ≡ false → StepsIs text work work' base size (parse_items (split 44 start (part start size text))) c →
       StepsIs text work work' base size (parse_psteps (part_at text start size)) c
   unfolding parse_psteps part_at
-  p_items e h = rw (sym i.answer ∙ e) h
+  p_items e h = rw (sym i ∙ e) h
 
-  pub w_star : {work : List ℕ} {base : ℕ} → t ≡ true → StepsIs text work work base size (parse_wsteps (part_at text start size)) (Value 0)
+  pub w_star : {work : List ℕ} {base : ℕ} → t ≡ true → StepsIs text work work base size (parse_wsteps (part_at text start size)) (Ok 0)
   unfolding parse_wsteps part_at
-  w_star {work} {base} e = none_put base size (rw (sym i.answer ∙ e))
+  w_star {work} {base} e = none_put base size (rw (sym i ∙ e))
 
-  pub w_none : {work : List ℕ} {base : ℕ} → t ≡ false → size ≡ 0 → StepsIs text work work base size (parse_wsteps (part_at text start size)) (Value 0)
+  pub w_none : {work : List ℕ} {base : ℕ} → t ≡ false → size ≡ 0 → StepsIs text work work base size (parse_wsteps (part_at text start size)) (Ok 0)
   unfolding parse_wsteps part_at part is_empty same star
   w_none {work} {base} f e = none_put base size (rw e)
 
-  pub w_walk : {work work' : List ℕ} {base : ℕ} {c : Checked} → t ≡ false → start + size ≤ length text → (size ≡ 0 → ⊥) →
+  pub w_walk : {work work' : List ℕ} {base : ℕ} {c : Result ℕ Reason} → t ≡ false → start + size ≤ length text → (size ≡ 0 → ⊥) →
       StepsIs text work work' base size (non_empty (walk start (part start size text)).steps) c → StepsIs text work work' base size (parse_wsteps (part_at text start size)) c
   unfolding parse_wsteps part_at
-  w_walk f h n p = rw (sym i.answer ∙ f, ends.non_empty (part start size text) (omega (arith, n, length_part start size text h))) p
+  w_walk f h n p = rw (sym i ∙ f, ends.non_empty (part start size text) (omega (arith, n, length_part start size text h))) p
 
 -- by the kind
-module _ {text work work' : List ℕ} {base size : ℕ} (start : ℕ) {kind : PathKind} {c : Checked} where
+module _ {text work work' : List ℕ} {base size : ℕ} (start : ℕ) {kind : PathKind} {c : Result ℕ Reason} where
   pub of_p_line : kind ≡ kinds.P → StepsIs text work work' base size (parse_psteps (part_at text start size)) c →
       StepsIs text work work' base size (steps_of (kind_in kind) (part_at text start size)) c
   unfolding steps_of
@@ -108,6 +70,13 @@ module _ {text work work' : List ℕ} {base size : ℕ} (start : ℕ) {kind : Pa
       StepsIs text work work' base size (steps_of (kind_in kind) (part_at text start size)) c
   unfolding steps_of
   of_w_line e h = rw e h
+
+-- what the reading of a field goes on by
+pub ruleset of_p = (p_star, p_items)
+
+pub ruleset of_w = (w_star, w_none, w_walk)
+
+pub ruleset by_kind = (of_p_line, of_w_line)
 
 -- ---- the line
 

@@ -1,4 +1,6 @@
 -- The steps of a P line, one item at a time: the state, and how it goes on. Assumes nothing.
+use Rattle.std.specs.Prelude.{Result, Ok, Err}
+use Rattle.refusals.specs.declared.reason.Reason.{Reason}
 use Prim.Native.Nat.{ℕ, suc, ◌+◌, ◌*◌, ◌-◌, ◌≤◌, ◌<◌}
 use native.Mathlib.Decide.{dec_lt}
 use native.Mathlib.Numerals.{add-one}
@@ -10,8 +12,6 @@ use lib.Dec.{leb}
 use lib.ListN.{length}
 use lib.Seq.{slice}
 use borrow.Author.Tests.{le-leb, lt-leb}
-use Rattle.steps.specs.declared.checked.Checked.{Checked}
-use Rattle.steps.specs.declared.checked.Checked.TheVariants.{Value, Refused}
 use Rattle.gfa_spec.specs.Bytes.{Part, part, split}
 use Rattle.gfa_spec.specs.Reading.{Step, Read, refused, accepted, then, parse_items}
 use Rattle.scan.specs.Places.{FirstIs, part_at}
@@ -64,13 +64,13 @@ pub record Stepping (text first work : List ℕ) (base start size at n : ℕ) : 
   pub only : Only (span base (base + 3 * n) ∷ []) first work
 
 module _ {text first : List ℕ} {base start size : ℕ} where
-  pub stepping_start : (start + size ≤ length text) × (length text ≤ 1048576) × (base + 3 * size + 3 ≤ length first) → Stepping text first first base start size start 0
+  pub stepping_start : start + size ≤ length text → length text ≤ 1048576 → base + 3 * size + 3 ≤ length first → Stepping text first first base start size start 0
   unfolding steps_at rows_at
-  stepping_start h =
+  stepping_start h k l =
       record {
-        inside = h.0;
-        short = h.1;
-        room = h.2;
+        inside = h;
+        short = k;
+        room = l;
         low = omega arith;
         high = omega arith;
         few = omega arith;
@@ -81,7 +81,7 @@ module _ {text first : List ℕ} {base start size : ℕ} where
       }
 
   module _ {work : List ℕ} {at n : ℕ} (s : Stepping text first work base start size at n) where
-    pub stepping_end : start + size < at → StepsIs text first work base size (parse_items (split 44 start (part start size text))) (Value n)
+    pub stepping_end : start + size < at → StepsIs text first work base size (parse_items (split 44 start (part start size text))) (Ok n)
     unfolding parse_items add_steps then
     stepping_end h =
         record {
@@ -95,12 +95,12 @@ module _ {text first : List ℕ} {base start size : ℕ} where
               };
         }
 
-    module _ {comma : ℕ} (f : FirstIs text 44 at (start + size) comma) (h : at ≤ start + size) {work' : List ℕ} {r : Checked} (i : ItemIs text work work' base n at comma r) where
-      pub stepping_bad : {k : ℕ} → r ≡ Refused k → StepsIs text first work' base size (parse_items (split 44 start (part start size text))) r
+    module _ {comma : ℕ} (f : FirstIs text 44 at (start + size) comma) (h : at ≤ start + size) {work' : List ℕ} {r : Result ℕ Reason} (i : ItemIs text work work' base n at comma r) where
+      pub stepping_bad : {k : Reason} → r ≡ Err k → StepsIs text first work' base size (parse_items (split 44 start (part start size text))) r
       unfolding add_steps then
       stepping_bad e = let b = rw e at i.says in rw e (record { says = s.whole ∙ rw (items_first f h s.inside, b.read) })
 
-      pub stepping_more : {m : ℕ} → r ≡ Value m → Stepping text first work' base start size (comma + 1) m
+      pub stepping_more : {m : ℕ} → r ≡ Ok m → Stepping text first work' base start size (comma + 1) m
       stepping_more {m} e =
           let r = rw e at i.says in
           let few : 3 * m + start ≤ comma + 1 = omega (arith, s.few, r.high, r.one, f.low) in
@@ -122,3 +122,6 @@ module _ {text first : List ℕ} {base start size : ℕ} where
                   (outside_less (base + 3 * n) (base + 3 * m) o.0 (omega arith) (omega arith), tt),
                 ));
           })
+
+-- what the reading of items goes on by
+pub ruleset stepping = (stepping_start, stepping_bad, stepping_more, stepping_end)

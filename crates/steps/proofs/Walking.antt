@@ -1,4 +1,9 @@
 -- The steps of a W line: marks, and the state between two steps. Assumes nothing.
+use Rattle.std.specs.Prelude.{Ok, Err}
+use Rattle.refusals.specs.declared.reason.Reason.TheVariants.{EmptyStep, NoStep, EmptyLastStep}
+use Rattle.scan.specs.declared.orientation.Orientation.{Orientation}
+use Rattle.scan.specs.Orientations.{sign_of}
+use Rattle.scan.proofs.Orientations.{sign_is}
 use Prim.Native.Nat.{ℕ, suc, ◌+◌, ◌*◌, ◌-◌, ◌≤◌, ◌<◌}
 use native.Mathlib.Nat.{mul-suc}
 use native.Mathlib.Numerals.{add-one}
@@ -7,18 +12,15 @@ use mathlib.Core.Bool.{Bool, true, false}
 use mathlib.Core.List.{List, [], ◌∷◌, ◌++◌, append-nil, append_assoc}
 use mathlib.Core.Logic.{inl}
 use mathlib.Core.Path.{◌≡◌, refl, sym, ◌∙◌}
-use lib.Dec.{eqb}
 use lib.ListN.{length, get_or}
 use lib.Seq.{sets, slice, slice-cons, slice_empty, length-slice, length-sets}
-use Rattle.steps.specs.declared.checked.Checked.TheVariants.{Value, Refused}
 use Rattle.gfa_spec.specs.Bytes.{part, is_empty}
-use Rattle.gfa_spec.specs.Reading.{Step, Read, refused, accepted, then, is_orientation, is_mark, orientation_of, walk, non_empty}
+use Rattle.gfa_spec.specs.Reading.{Step, Read, refused, accepted, then, is_mark, orientation_of, walk, non_empty}
 use Rattle.scan.specs.Places.{part_at}
 use Rattle.work.specs.Rows.{rows_at, EachRow, span, Only}
 use Rattle.tables.specs.Steps.{steps_at, StepRow}
 use Rattle.steps.specs.StepFields.{add_steps, MarkIs, StepsIs}
 use Rattle.scan.proofs.Cutting.{part_slice, part_range}
-use Rattle.gfa_spec.proofs.Tests.{by_test}
 use Rattle.work.proofs.Rows.{only_none, only_put, only_kept, only_then, outside_less, each_none, each_more}
 use Rattle.tables.proofs.TableRows.{steps_kept, step_rows_kept, step_put, step_row_put}
 use Rattle.steps.proofs.Items.{add_none, steps_snoc}
@@ -127,15 +129,6 @@ rest_empty : (s t : Step) (ts : List Step) → is_empty s.name.bytes ≡ true �
 unfolding rest non_empty
 rest_empty s t ts e = rw e
 
--- what a mark says is + or -
-mark_orientation : (b : ℕ) → is_orientation (orientation_of b) ≡ true
-unfolding is_orientation orientation_of
-mark_orientation b = by_test (eqb b 62) (λ e. rw e) (λ e. rw e)
-
-pub mark_small : (b : ℕ) {o : ℕ} → o ≡ orientation_of b → o < 4294967296
-unfolding orientation_of
-mark_small b h = rw h (by_test (eqb b 62) (λ e. rw e (omega arith)) (λ e. rw e (omega arith)))
-
 -- The state before the mark at `at`: the walk's steps are those of the table, and then those that are left.
 pub record Walking (text first work : List ℕ) (base start size at n : ℕ) : Type 0 where
   pub inside : start + size ≤ length text
@@ -152,31 +145,31 @@ pub record Walking (text first work : List ℕ) (base start size at n : ℕ) : T
 
 -- a walk without a mark
 pub walking_none : {text work work' : List ℕ} {base start size at : ℕ} → MarkIs text start (start + size) at → at ≡ start + size →
-    StepsIs text work work' base size (non_empty (walk start (part start size text)).steps) (Refused 16)
+    StepsIs text work work' base size (non_empty (walk start (part start size text)).steps) (Err NoStep)
 unfolding non_empty
 walking_none {text} {start = start} {size = size} m e = record { says = rw (part_slice start size text, (mark_at m).steps, e, walk_none) }
 
-module _ {text first : List ℕ} {base start size : ℕ} (h : (start + size ≤ length text) × (length text ≤ 1048576) × (base + 3 * size + 3 ≤ length first)) where
+module _ {text first : List ℕ} {base start size : ℕ} (inside : start + size ≤ length text) (short : length text ≤ 1048576) (room : base + 3 * size + 3 ≤ length first) where
   pub walking_start : {at : ℕ} → MarkIs text start (start + size) at → (at ≡ start + size → ⊥) → Walking text first first base start size at 0
   unfolding steps_at rows_at rest
   walking_start {at} m n =
       let l : at < start + size = omega (arith, m.high, n) in
       record {
-        inside = h.0;
-        short = h.1;
-        room = h.2;
+        inside = inside;
+        short = short;
+        room = room;
         low = m.low;
         high = m.high;
         few = omega (arith, m.low);
         mark = m.mark;
         long = refl;
         rows = each_none;
-        whole = rw (part_slice start size text, (mark_at m).steps, walk_mark text at (start + size) l h.0 (m.mark l)) (sym (add_none _));
+        whole = rw (part_slice start size text, (mark_at m).steps, walk_mark text at (start + size) l inside (m.mark l)) (sym (add_none _));
         only = only_none;
       }
 
 module _ {text first work : List ℕ} {base start size at n : ℕ} (s : Walking text first work base start size at n) where
-  pub walking_end : start + size ≤ at → StepsIs text first work base size (non_empty (walk start (part start size text)).steps) (Value n)
+  pub walking_end : start + size ≤ at → StepsIs text first work base size (non_empty (walk start (part start size text)).steps) (Ok n)
   unfolding rest add_steps then
   walking_end h =
       let e : at ≡ start + size = omega (arith, s.high) in
@@ -207,25 +200,25 @@ module _ {text first work : List ℕ} {base start size at n : ℕ} (s : Walking 
     no_name e = rw (e, add-one, slice_empty)
 
     -- an empty last step, and another empty step
-    pub walking_last : {work' : List ℕ} → next ≡ at + 1 → next ≡ start + size → StepsIs text first work' base size (non_empty (walk start (part start size text)).steps) (Refused 17)
+    pub walking_last : {work' : List ℕ} → next ≡ at + 1 → next ≡ start + size → StepsIs text first work' base size (non_empty (walk start (part start size text)).steps) (Err EmptyLastStep)
     unfolding add_steps then
     walking_last e f =
         let z : (walk next (slice next (start + size) text)).steps ≡ [] = rw (f, walk_none) in
         record { says = s.whole ∙ rw (walk_step, z, rest_last step (no_name e)) }
 
-    pub walking_empty : {work' : List ℕ} → next ≡ at + 1 → (next ≡ start + size → ⊥) → StepsIs text first work' base size (non_empty (walk start (part start size text)).steps) (Refused 15)
+    pub walking_empty : {work' : List ℕ} → next ≡ at + 1 → (next ≡ start + size → ⊥) → StepsIs text first work' base size (non_empty (walk start (part start size text)).steps) (Err EmptyStep)
     unfolding add_steps then
     walking_empty e f =
         let k : next < start + size = omega (arith, m.high, f) in
         record { says = s.whole ∙ rw (walk_step, walk_mark text next (start + size) k s.inside (m.mark k), rest_empty step _ _ (no_name e)) }
 
     -- a step with a name is put into the table
-    pub walking_more : {work' : List ℕ} {o : ℕ} → (next ≡ at + 1 → ⊥) → o ≡ orientation_of (get_or text at 0) →
-        work' ≡ sets work (base + 3 * n) ((at + 1) ∷ (next - (at + 1)) ∷ o ∷ []) → Walking text first work' base start size next (n + 1)
+    pub walking_more : {work' : List ℕ} (o : Orientation) → (next ≡ at + 1 → ⊥) → sign_of o ≡ orientation_of (get_or text at 0) →
+        work' ≡ sets work (base + 3 * n) ((at + 1) ∷ (next - (at + 1)) ∷ sign_of o ∷ []) → Walking text first work' base start size next (n + 1)
     unfolding step part_at
-    walking_more {work'} {o} e p q =
+    walking_more {work'} o e p q =
         let place = base + 3 * n in
-        let row = (at + 1) ∷ (next - (at + 1)) ∷ o ∷ [] in
+        let row = (at + 1) ∷ (next - (at + 1)) ∷ sign_of o ∷ [] in
         let only = only_put row work place in
         let low = only_kept base place only (inl (omega arith), tt) in
         let c = mul-suc 3 n in
@@ -234,7 +227,7 @@ module _ {text first work : List ℕ} {base start size at n : ℕ} (s : Walking 
         let g = part_range (at + 1) next text b in
         let r : place + 3 ≤ length work = omega (arith, s.room, s.few, s.long, l) in
         let some : 0 < length (slice (suc at) next text) = omega (arith, length-slice (suc at) next text (omega (arith, t, s.inside)), b, e) in
-        let put = step_put text work place (at + 1) (next - (at + 1)) o r in
+        let put = step_put text work place (at + 1) (next - (at + 1)) (sign_of o) r in
         let more : steps_at text (sets work place row) base (suc n) ≡ steps_at text work base n ++ (step ∷ []) =
         steps_snoc text (sets work place row) base n ∙ rw (steps_kept low text base n (omega arith) (omega arith), put, g, p, add-one)
         in
@@ -250,9 +243,14 @@ module _ {text first work : List ℕ} {base start size at n : ℕ} (s : Walking 
           long = length-sets work place row ∙ s.long;
           rows =
               each_more (step_rows_kept low text base n (omega arith) (omega arith) s.rows)
-              (step_row_put text work place (at + 1) (next - (at + 1)) o r (omega (arith, b, t, s.inside)) (rw p (mark_orientation (get_or text at 0))));
+              (step_row_put text work place (at + 1) (next - (at + 1)) (sign_of o) r (omega (arith, b, t, s.inside)) (sign_is o));
           whole = s.whole ∙ rw (walk_step, rest_named step _ (lines.non_empty _ some), add_add, more);
           only =
               only_then _ s.only only
               (λ i a. ((outside_less base (base + 3 * n) a.0 (omega arith) (omega arith), tt), (outside_less place (place + 3) a.0 (omega arith) (omega arith), tt)));
         })
+
+-- what the search for a mark goes on by, and the reading of a walk
+pub ruleset marking = (marking_start, marking_hit, marking_more, marking_end)
+
+pub ruleset walking = (walking_none, walking_start, walking_last, walking_empty, walking_more, walking_end)

@@ -1,3 +1,2 @@
 -- What the contracts on fields of steps say.
-pub mod Checked
 pub mod StepFields

@@ -1,7 +1,8 @@
 -- What the reader does with the steps of a path. Document 01, "Reading", and the refusals 13 and 15 to 17.
+use Rattle.std.specs.Prelude.{Result, Ok, Err}
+use Rattle.refusals.specs.declared.reason.Reason.{Reason}
+use Rattle.refusals.specs.Reasons.{number_of}
 use Rattle.std.specs.Prelude.{ℕ, ◌+◌, ◌*◌, ◌-◌, ◌≤◌, ◌<◌, true, cond, List, [], ◌∷◌, ◌++◌, ◌≡◌, length, get_or}
-use Rattle.steps.specs.declared.checked.Checked.{Checked}
-use Rattle.steps.specs.declared.checked.Checked.TheVariants.{Value, Refused}
 use Rattle.gfa_spec.specs.Bytes.{Part, part, is_empty}
 use Rattle.gfa_spec.specs.Reading.{Step, Read, refused, accepted, then, step_of, parse_items, is_mark, walk}
 use Rattle.scan.specs.Places.{part_at}
@@ -19,12 +20,12 @@ pub record StepsPut (text work work' : List ℕ) (base size m : ℕ) (r : Read (
   pub only : Only (span base (base + 3 * m) ∷ []) work work'
 
 -- by the cases of the answer
-abbrev pub StepsSay : List ℕ → List ℕ → List ℕ → ℕ → ℕ → Read (List Step) → Checked → Type 0
-StepsSay text work work' base size r (Value m) = StepsPut text work work' base size m r
-StepsSay text work work' base size r (Refused k) = r ≡ refused k
+abbrev pub StepsSay : List ℕ → List ℕ → List ℕ → ℕ → ℕ → Read (List Step) → Result ℕ Reason → Type 0
+StepsSay text work work' base size r (Ok m) = StepsPut text work work' base size m r
+StepsSay text work work' base size r (Err k) = r ≡ refused (number_of k)
 
 -- What the answer to a field of steps says; r is what the definitions read there.
-pub record StepsIs (text work work' : List ℕ) (base size : ℕ) (r : Read (List Step)) (c : Checked) : Type 0 where
+pub record StepsIs (text work work' : List ℕ) (base size : ℕ) (r : Read (List Step)) (c : Result ℕ Reason) : Type 0 where
   pub says : StepsSay text work work' base size r c
 
 -- ---- the items of a P line
@@ -53,12 +54,12 @@ pub record ItemRead (text work work' : List ℕ) (base n from to m : ℕ) : Type
   pub only : Only (span (base + 3 * n) (base + 3 * m) ∷ []) work work'
 
 -- by the cases of the answer
-abbrev pub ItemSays : List ℕ → List ℕ → List ℕ → ℕ → ℕ → ℕ → ℕ → Checked → Type 0
-ItemSays text work work' base n from to (Value m) = ItemRead text work work' base n from to m
-ItemSays text work work' base n from to (Refused k) = ItemBad text from to k
+abbrev pub ItemSays : List ℕ → List ℕ → List ℕ → ℕ → ℕ → ℕ → ℕ → Result ℕ Reason → Type 0
+ItemSays text work work' base n from to (Ok m) = ItemRead text work work' base n from to m
+ItemSays text work work' base n from to (Err k) = ItemBad text from to (number_of k)
 
 -- What the answer to an item says.
-pub record ItemIs (text work work' : List ℕ) (base n from to : ℕ) (r : Checked) : Type 0 where
+pub record ItemIs (text work work' : List ℕ) (base n from to : ℕ) (r : Result ℕ Reason) : Type 0 where
   pub says : ItemSays text work work' base n from to r
 
 -- ---- the marks of a W line

@@ -1,7 +1,6 @@
 // The steps of P and W lines, put into the step table.
 #![tactic(auto)]
 
-pub mod checked;
 pub mod fields;
 pub mod p_steps;
 pub mod walks;

@@ -1,30 +1,17 @@
 // The steps of a P line, put into the step table.
-ghost use Rattle.std.specs.Prelude.{◌≡◌, ◌+◌, ◌*◌, ◌≤◌, ◌<◌, length};
-ghost use Rattle.gfa_spec.specs.Reading.{is_orientation, parse_items, parse_psteps};
+ghost use Rattle.std.specs.Prelude.{◌+◌, ◌*◌, ◌≤◌, length};
 ghost use Rattle.gfa_spec.specs.Bytes.{split, part};
-ghost use Rattle.scan.specs.Places.{part_at};
-ghost use Rattle.steps.specs.StepFields.{ItemIs, StepsIs};
+ghost use Rattle.gfa_spec.specs.Reading.{parse_items, parse_psteps};
+ghost use Rattle.scan.specs.Places.{Inside, part_at};
+ghost use Rattle.steps.specs.StepFields.{StepsIs, ItemIs};
 
-use crate::checked::Checked;
+use refusals::reason::Reason;
 use scan::names::is_star;
-use scan::places::find;
-use tables::rows::{Place, StepWords, put_step};
+use scan::orientation::Orientation;
+use scan::places::{Place, find};
+use tables::rows::{StepWords, put_step};
 
-// Is the byte + or -?
-pub fn is_orientation(b: u8) -> bool
-    ensures { result ≡ is_orientation b }
-{
-    b == 43 || b == 45
-}
-
-// A byte as a number.
-pub fn wide_byte(b: u8) -> usize
-    ensures { (result ≡ b) × (result < 256) }
-{
-    b as usize
-}
-
-// Puts the item from `from` to `to` into the table at `base`, behind its `n` steps; an empty item is skipped.
+// Puts the item from `from` to `to` into the table at `base`, behind its `n` steps; an empty item is skipped. Answers how many there are with it.
 pub fn read_item(
     text: &[u8],
     work: &mut [u32],
@@ -32,65 +19,63 @@ pub fn read_item(
     n: usize,
     from: usize,
     to: usize,
-) -> Checked
+) -> Result<usize, Reason>
     requires { (from ≤ to) × (to ≤ length text.now) × (length text.now ≤ 1048576) × (base + 3 * n + 3 ≤ length work.old) }
     ensures { ItemIs text.now work.old work.new base n from to result }
 {
     if from == to {
-        return Checked::Value(n);
+        return Ok(n);
     }
     let last = to - 1;
-    let mark = text[last];
-    if !is_orientation(mark) {
-        return Checked::Refused(13);
-    }
-    if from == last {
-        return Checked::Refused(13);
-    }
-    let step = StepWords {
-        name: Place {
-            start: from,
-            size: last - from,
-        },
-        mark: wide_byte(mark),
+    let Some(mark) = Orientation::of(text[last]) else {
+        return Err(Reason::BadStep);
     };
-    put_step(work, base, n, step);
-    Checked::Value(n + 1)
+    if from == last {
+        return Err(Reason::BadStep);
+    }
+    let name = Place {
+        start: from,
+        size: last - from,
+    };
+    put_step(work, base, n, StepWords { name, mark });
+    Ok(n + 1)
 }
 
-// Puts the steps of the items from `start` on into the table at `base`.
-pub fn read_items(text: &[u8], work: &mut [u32], base: usize, start: usize, size: usize) -> Checked
-    requires { (start + size ≤ length text.now) × (length text.now ≤ 1048576) × (base + 3 * size + 3 ≤ length work.old) }
-    ensures { StepsIs text.now work.old work.new base size (parse_items (split 44 start (part start size text.now))) result }
+// Puts the steps of a field's items into the table at `base`.
+#[tactic(auto, using(crate::proofs::Stepping::stepping))]
+pub fn read_items(text: &[u8], work: &mut [u32], base: usize, field: Place) -> Result<usize, Reason>
+    requires inside { Inside text.now field }
+    requires short { length text.now ≤ 1048576 }
+    requires room { base + 3 * field.size + 3 ≤ length work.old }
+    ensures { StepsIs text.now work.old work.new base field.size (parse_items (split 44 field.start (part field.start field.size text.now))) result }
 {
-    let end = start + size;
-    let mut at = start;
+    let end = field.start + field.size;
+    let mut at = field.start;
     let mut n = 0;
+    // From comma to comma.
     while at <= end {
-        let comma = find(text, 44, at, end);
-        let item = read_item(text, work, base, n, at, comma);
-        let Checked::Value(m) = item else {
-            return item;
-        };
-        n = m;
+        let comma = find(text, b',', at, end);
+        n = read_item(text, work, base, n, at, comma)?;
         at = comma + 1;
     }
-    Checked::Value(n)
+    Ok(n)
 }
 
-// Puts the steps of the P line's field that starts at `start` into the table at `base`.
+// Puts the steps of a P line's field into the table at `base`.
+#[tactic(auto, using(crate::proofs::StepFields::of_p))]
 pub fn parse_p_steps(
     text: &[u8],
     work: &mut [u32],
     base: usize,
-    start: usize,
-    size: usize,
-) -> Checked
-    requires { (start + size ≤ length text.now) × (length text.now ≤ 1048576) × (base + 3 * size + 3 ≤ length work.old) }
-    ensures { StepsIs text.now work.old work.new base size (parse_psteps (part_at text.now start size)) result }
+    field: Place,
+) -> Result<usize, Reason>
+    requires inside { Inside text.now field }
+    requires short { length text.now ≤ 1048576 }
+    requires room { base + 3 * field.size + 3 ≤ length work.old }
+    ensures { StepsIs text.now work.old work.new base field.size (parse_psteps (part_at text.now field.start field.size)) result }
 {
-    if is_star(text, start, size) {
-        return Checked::Value(0);
+    if is_star(field.of(text)) {
+        return Ok(0);
     }
-    read_items(text, work, base, start, size)
+    read_items(text, work, base, field)
 }

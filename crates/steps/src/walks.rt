@@ -1,97 +1,107 @@
 // The steps of a W line, put into the step table.
 ghost use Rattle.std.specs.Prelude.{◌≡◌, ◌+◌, ◌*◌, ◌≤◌, length};
 ghost use Rattle.gfa_spec.specs.Bytes.{part};
-ghost use Rattle.gfa_spec.specs.Reading.{is_mark, orientation_of, walk, non_empty, parse_wsteps};
-ghost use Rattle.scan.specs.Places.{part_at};
-ghost use Rattle.steps.specs.StepFields.{MarkIs, StepsIs};
+ghost use Rattle.gfa_spec.specs.Reading.{is_mark, orientation_of, non_empty, walk, parse_wsteps};
+ghost use Rattle.scan.specs.Orientations.{sign_of};
+ghost use Rattle.scan.specs.Places.{Inside, part_at};
+ghost use Rattle.steps.specs.StepFields.{StepsIs, MarkIs};
 
-use crate::checked::Checked;
+use refusals::reason::Reason;
 use scan::names::is_star;
-use tables::rows::{Place, StepWords, put_step};
+use scan::orientation::Orientation;
+use scan::places::Place;
+use tables::rows::{StepWords, put_step};
 
 // Is the byte > or <?
+#[tactic(auto, unfolding(gfa_spec::specs::Reading::is_mark))]
 pub fn is_mark(b: u8) -> bool
     ensures { result ≡ is_mark b }
 {
-    b == 62 || b == 60
+    b == b'>' || b == b'<'
 }
 
 // The orientation that a mark says.
-pub fn orientation_at(mark: u8) -> usize
-    ensures { result ≡ orientation_of mark }
+#[tactic(auto, unfolding(gfa_spec::specs::Reading::orientation_of))]
+pub fn orientation_at(mark: u8) -> Orientation
+    ensures { sign_of result ≡ orientation_of mark }
 {
-    if mark == 62 {
-        return 43;
+    if mark == b'>' {
+        Orientation::Forward
+    } else {
+        Orientation::Reverse
     }
-    45
 }
 
 // The first mark from `from` up to `to`, or `to`.
+#[tactic(auto, using(crate::proofs::Walking::marking))]
 pub fn find_mark(text: &[u8], from: usize, to: usize) -> usize
     requires { (from ≤ to) × (to ≤ length text.now) }
     ensures { MarkIs text.now from to result }
 {
-    let mut i = from;
-    while i < to {
+    for i in from..to {
         if is_mark(text[i]) {
             return i;
         }
-        i += 1;
     }
-    i
+    to
 }
 
-// Puts the steps of the walk that starts at `start` into the table at `base`.
-pub fn read_walk(text: &[u8], work: &mut [u32], base: usize, start: usize, size: usize) -> Checked
-    requires { (start + size ≤ length text.now) × (length text.now ≤ 1048576) × (base + 3 * size + 3 ≤ length work.old) }
-    ensures { StepsIs text.now work.old work.new base size (non_empty (walk start (part start size text.now)).steps) result }
+// Puts the steps of a walk into the table at `base`.
+#[tactic(auto, using(crate::proofs::Walking::walking))]
+pub fn read_walk(text: &[u8], work: &mut [u32], base: usize, field: Place) -> Result<usize, Reason>
+    requires inside { Inside text.now field }
+    requires short { length text.now ≤ 1048576 }
+    requires room { base + 3 * field.size + 3 ≤ length work.old }
+    ensures { StepsIs text.now work.old work.new base field.size (non_empty (walk field.start (part field.start field.size text.now)).steps) result }
 {
-    let end = start + size;
-    let mut at = find_mark(text, start, end);
+    let end = field.start + field.size;
+    let mut at = find_mark(text, field.start, end);
     if at == end {
-        return Checked::Refused(16);
+        return Err(Reason::NoStep);
     }
     let mut n = 0;
+    // From mark to mark.
     while at < end {
-        let mark = text[at];
         let name = at + 1;
         let next = find_mark(text, name, end);
         if next == name {
             if next == end {
-                return Checked::Refused(17);
+                return Err(Reason::EmptyLastStep);
             }
-            return Checked::Refused(15);
+            return Err(Reason::EmptyStep);
         }
         let step = StepWords {
             name: Place {
                 start: name,
                 size: next - name,
             },
-            mark: orientation_at(mark),
+            mark: orientation_at(text[at]),
         };
         put_step(work, base, n, step);
         n += 1;
         at = next;
     }
-    Checked::Value(n)
+    Ok(n)
 }
 
-// Puts the steps of the W line's field that starts at `start` into the table at `base`.
+// Puts the steps of a W line's field into the table at `base`.
+#[tactic(auto, using(crate::proofs::StepFields::of_w))]
 pub fn parse_w_steps(
     text: &[u8],
     work: &mut [u32],
     base: usize,
-    start: usize,
-    size: usize,
-) -> Checked
-    requires { (start + size ≤ length text.now) × (length text.now ≤ 1048576) × (base + 3 * size + 3 ≤ length work.old) }
-    ensures { StepsIs text.now work.old work.new base size (parse_wsteps (part_at text.now start size)) result }
+    field: Place,
+) -> Result<usize, Reason>
+    requires inside { Inside text.now field }
+    requires short { length text.now ≤ 1048576 }
+    requires room { base + 3 * field.size + 3 ≤ length work.old }
+    ensures { StepsIs text.now work.old work.new base field.size (parse_wsteps (part_at text.now field.start field.size)) result }
 {
-    if is_star(text, start, size) {
-        return Checked::Value(0);
+    if is_star(field.of(text)) {
+        return Ok(0);
     }
-    if size == 0 {
-        return Checked::Value(0);
+    if field.size == 0 {
+        return Ok(0);
     }
-    read_walk(text, work, base, start, size)
+    read_walk(text, work, base, field)
 }

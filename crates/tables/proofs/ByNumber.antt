@@ -7,8 +7,10 @@ use mathlib.Core.Path.{◌≡◌, refl, ap, ◌∙◌}
 use lib.ListN.{length, get_or}
 use Rattle.tables.specs.declared.tables.Bases.{Bases}
 use Rattle.tables.specs.declared.tables.Counts.{Counts}
-use Rattle.tables.specs.declared.entry.LineEntry.{LineEntry}
-use Rattle.tables.specs.declared.rows.Place.{Place}
+use Rattle.tables.specs.declared.entry.Record.{Record}
+use Rattle.scan.specs.declared.orientation.Orientation.{Orientation}
+use Rattle.scan.specs.declared.places.Place.{Place}
+use Rattle.scan.specs.Orientations.{sign_of}
 use Rattle.gfa_spec.specs.Bytes.{nth}
 use Rattle.gfa_spec.specs.Reading.{Segment, Path, Step}
 use Rattle.work.specs.Rows.{rows_at}
@@ -32,7 +34,7 @@ module _ {text work : List ℕ} {b : Bases} {n : Counts} (t : Readable text work
   next : (at d : ℕ) → get_or work (at + d + 1) 0 ≡ get_or work (at + (d + 1)) 0
   next at d = let e : at + d + 1 ≡ at + (d + 1) = omega arith in rw e
 
-  pub line_is : {r : LineEntry} (i : ℕ) → i < n.lines → r.holds ≡ record_at work (b.lines + 3 * i) → LineIs text work b n i r
+  pub line_is : {r : Record} (i : ℕ) → i < n.lines → r ≡ record_at work (b.lines + 3 * i) → LineIs text work b n i r
   unfolding entry_at
   line_is i h e = record { entry = rw e; fits = rw e (t.sound.lines.row i h).fits }
 
@@ -45,15 +47,15 @@ module _ {text work : List ℕ} {b : Bases} {n : Counts} (t : Readable text work
         let q = t.sound.segs.row i h in
         rw (el, ei, es, next at 2, next at 4) (record { segment = refl; line = q.line; id = q.id; sequence = q.sequence })
 
-  module _ {line from to : Place} {leaves enters : ℕ} (i : ℕ) (h : i < n.links) where
-    pub link_is : line ≡ place_at work (b.links + 8 * i) → from ≡ place_at work (b.links + 8 * i + 2) → leaves ≡ get_or work (b.links + 8 * i + 4) 0
-        → to ≡ place_at work (b.links + 8 * i + 5) → enters ≡ get_or work (b.links + 8 * i + 7) 0
+  module _ {line from to : Place} {leaves enters : Orientation} (i : ℕ) (h : i < n.links) where
+    pub link_is : line ≡ place_at work (b.links + 8 * i) → from ≡ place_at work (b.links + 8 * i + 2) → sign_of leaves ≡ get_or work (b.links + 8 * i + 4) 0
+        → to ≡ place_at work (b.links + 8 * i + 5) → sign_of enters ≡ get_or work (b.links + 8 * i + 7) 0
         → LinkIs text work b i (record { line = line; from = from; leaves = leaves; to = to; enters = enters })
     unfolding link_at
     link_is el ef ea et ee =
         let at = b.links + 8 * i in
         let q = t.sound.links.row i h in
-        rw (el, ef, ea, et, ee, next at 2, next at 5) (record { link = refl; line = q.line; from = q.from; leaves = q.leaves; to = q.to; enters = q.enters })
+        rw (el, ef, et, next at 2, next at 5) (record { link = rw (ea, ee); line = q.line; from = q.from; to = q.to })
 
   module _ {line : Place} {word first count : ℕ} {kind : PathKind} (p : ℕ) (h : p < n.paths) where
     pub path_is : first ≡ get_or work (b.paths + 5 * p + 3) 0 → count ≡ get_or work (b.paths + 5 * p + 4) 0 → word ≡ get_or work (b.paths + 5 * p) 0 → kind_in kind ≡ kind_of word
@@ -65,12 +67,12 @@ module _ {text work : List ℕ} {b : Bases} {n : Counts} (t : Readable text work
         let z : first + count - first ≡ count = omega arith in
         rw el (record { path = rw (z, ek, ew, ef, ec, next at 1); line = rw (next at 1) q.line; low = omega arith; high = omega arith })
 
-  module _ {name : Place} {mark : ℕ} (i : ℕ) (h : i < n.steps) where
-    pub step_told : name ≡ place_at work (b.steps + 3 * i) → mark ≡ get_or work (b.steps + 3 * i + 2) 0 → StepIs text work b i (record { name = name; mark = mark })
+  module _ {name : Place} {mark : Orientation} (i : ℕ) (h : i < n.steps) where
+    pub step_told : name ≡ place_at work (b.steps + 3 * i) → sign_of mark ≡ get_or work (b.steps + 3 * i + 2) 0 → StepIs text work b i (record { name = name; mark = mark })
     unfolding step_at
     step_told en em =
         let q = t.sound.steps.row i h in
-        rw (en, em) (record { step = refl; name = q.name; mark = q.mark })
+        rw en (record { step = rw em; name = q.name })
 
 -- ---- the tables, row by row
 

@@ -1,4 +1,5 @@
 -- Laws of the tables.
+pub mod PathKinds
 pub mod TableRows
 pub mod Numbers
 pub mod Standing

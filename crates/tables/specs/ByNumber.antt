@@ -1,19 +1,19 @@
 -- Rows by their numbers: what a row's number stands for, and what the words of a row say. No width and no place of a row is named above this file.
-use Rattle.std.specs.Prelude.{ℕ, ◌+◌, ◌*◌, ◌-◌, ◌≤◌, true, List, [], ◌∷◌, ◌≡◌, length, get_or}
+use Rattle.std.specs.Prelude.{Option, ℕ, ◌+◌, ◌*◌, ◌-◌, ◌≤◌, List, [], ◌∷◌, ◌≡◌, get_or}
 use Rattle.tables.specs.declared.tables.Bases.{Bases}
 use Rattle.tables.specs.declared.tables.Counts.{Counts}
-use Rattle.tables.specs.declared.entry.LineEntry.{LineEntry}
-use Rattle.tables.specs.declared.rows.Place.{Place}
+use Rattle.tables.specs.declared.entry.Record.{Record}
+use Rattle.tables.specs.declared.entry.SegmentNo.{SegmentNo}
+use Rattle.scan.specs.declared.places.Place.{Place}
 use Rattle.tables.specs.declared.rows.SegmentWords.{SegmentWords}
 use Rattle.tables.specs.declared.rows.LinkWords.{LinkWords}
 use Rattle.tables.specs.declared.rows.PathWords.{PathWords}
 use Rattle.tables.specs.declared.rows.StepWords.{StepWords}
-use Rattle.gfa_spec.specs.Bytes.{part}
 use Rattle.gfa_spec.specs.Records.{segment_number}
-use Rattle.gfa_spec.specs.Reading.{Entry, Segment, Link, Path, Step, fields, is_orientation}
-use Rattle.scan.specs.Places.{part_at}
-use Rattle.tables.specs.declared.segments.Found.{Found}
-use Rattle.tables.specs.Segments.{segment_at, segments_at, found_as, FoundBelow}
+use Rattle.gfa_spec.specs.Reading.{Entry, Segment, Link, Path, Step, fields}
+use Rattle.scan.specs.Places.{part_at, Inside, bytes_in}
+use Rattle.scan.specs.Orientations.{sign_of}
+use Rattle.tables.specs.Segments.{segment_at, segments_at, segment_found, FoundBelow}
 use Rattle.tables.specs.Links.{link_at, links_at}
 use Rattle.tables.specs.Paths.{kind_in, kind_word, path_fields, path_at, paths_at}
 use Rattle.tables.specs.Steps.{step_at, steps_at}
@@ -75,41 +75,33 @@ tables_end b n = b.steps + 3 * n.steps
 abbrev pub place_at : List ℕ → ℕ → Place
 place_at work at = record { start = get_or work at 0; size = get_or work (at + 1) 0 }
 
--- the bytes of a part
-abbrev pub bytes_in : List ℕ → Place → List ℕ
-bytes_in text p = part p.start p.size text
-
--- it is one of the text
-abbrev pub Inside : List ℕ → Place → Type 0
-Inside text p = p.start + p.size ≤ length text
-
 -- ---- rows
 
 -- the step and the link that the words of a row say
 abbrev pub step_of : List ℕ → StepWords → Step
-step_of text s = record { name = part_at text s.name.start s.name.size; orientation = s.mark }
+step_of text s = record { name = part_at text s.name.start s.name.size; orientation = sign_of s.mark }
 
 abbrev pub link_of : List ℕ → LinkWords → Link
 link_of text l =
-    record { from = bytes_in text l.from; from_orientation = l.leaves; to = bytes_in text l.to; to_orientation = l.enters; line = bytes_in text l.line }
+    record { from = bytes_in text l.from; from_orientation = sign_of l.leaves; to = bytes_in text l.to; to_orientation = sign_of l.enters; line = bytes_in text l.line }
 
 -- the words of a segment's, a link's, a path's and a step's row
 abbrev pub segment_words : SegmentWords → List ℕ
 segment_words s = s.line.start ∷ s.line.size ∷ s.id.start ∷ s.id.size ∷ s.sequence.start ∷ s.sequence.size ∷ []
 
 abbrev pub link_words : LinkWords → List ℕ
-link_words l = l.line.start ∷ l.line.size ∷ l.from.start ∷ l.from.size ∷ l.leaves ∷ l.to.start ∷ l.to.size ∷ l.enters ∷ []
+link_words l = l.line.start ∷ l.line.size ∷ l.from.start ∷ l.from.size ∷ sign_of l.leaves ∷ l.to.start ∷ l.to.size ∷ sign_of l.enters ∷ []
 
 abbrev pub path_words : PathWords → List ℕ
 path_words p = kind_word p.kind ∷ p.line.start ∷ p.line.size ∷ p.first ∷ (p.end - p.first) ∷ []
 
 abbrev pub step_words : StepWords → List ℕ
-step_words s = s.name.start ∷ s.name.size ∷ s.mark ∷ []
+step_words s = s.name.start ∷ s.name.size ∷ sign_of s.mark ∷ []
 
 -- The record is that of line i.
-pub record LineIs (text work : List ℕ) (b : Bases) (n : Counts) (i : ℕ) (r : LineEntry) : Type 0 where
-  pub entry : entry_no text work b i ≡ entry_of text work b r.holds
-  pub fits : Fits text n r.holds
+pub record LineIs (text work : List ℕ) (b : Bases) (n : Counts) (i : ℕ) (r : Record) : Type 0 where
+  pub entry : entry_no text work b i ≡ entry_of text work b r
+  pub fits : Fits text n r
 
 -- The words are those of segment i.
 pub record SegmentIs (text work : List ℕ) (b : Bases) (i : ℕ) (r : SegmentWords) : Type 0 where
@@ -123,9 +115,7 @@ pub record LinkIs (text work : List ℕ) (b : Bases) (i : ℕ) (r : LinkWords) :
   pub link : link_no text work b i ≡ link_of text r
   pub line : Inside text r.line
   pub from : Inside text r.from
-  pub leaves : is_orientation r.leaves ≡ true
   pub to : Inside text r.to
-  pub enters : is_orientation r.enters ≡ true
 
 -- The words are those of path p; its steps are rows of the step table.
 pub record PathIs (text work : List ℕ) (b : Bases) (n : Counts) (p : ℕ) (r : PathWords) : Type 0 where
@@ -143,9 +133,13 @@ pub record PathIs (text work : List ℕ) (b : Bases) (n : Counts) (p : ℕ) (r :
 pub record StepIs (text work : List ℕ) (b : Bases) (i : ℕ) (r : StepWords) : Type 0 where
   pub step : step_no text work b i ≡ step_of text r
   pub name : Inside text r.name
-  pub mark : is_orientation r.mark ≡ true
 
--- What a search for the segment of a name finds: the number of the first so named.
-pub record NamedIs (text work : List ℕ) (b : Bases) (n : Counts) (name : Place) (r : Found) : Type 0 where
-  pub answer : r ≡ found_as (segment_number (segments_of text work b n) (bytes_in text name))
+-- What a search for a name finds in the first `count` segments: the number of the first so named.
+pub record FoundIs (text work : List ℕ) (b : Bases) (count : ℕ) (name : Place) (r : Option SegmentNo) : Type 0 where
+  pub answer : r ≡ segment_found (segment_number (segments_to text work b count) (bytes_in text name))
+  pub below : FoundBelow count r
+
+-- What it finds in all of them.
+pub record NamedIs (text work : List ℕ) (b : Bases) (n : Counts) (name : Place) (r : Option SegmentNo) : Type 0 where
+  pub answer : r ≡ segment_found (segment_number (segments_of text work b n) (bytes_in text name))
   pub below : FoundBelow n.segs r

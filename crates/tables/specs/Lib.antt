@@ -6,3 +6,4 @@ pub mod Paths
 pub mod Entries
 pub mod Tables
 pub mod ByNumber
+pub mod Props

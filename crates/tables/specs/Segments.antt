@@ -1,11 +1,9 @@
 -- The segment table, and the search for a name in it. Document 01, "Reading": segment numbers count from 0.
-use Rattle.std.specs.Prelude.{ℕ, ◌+◌, ◌≤◌, ◌<◌, List, map, ◌≡◌, length, get_or}
-use Rattle.std.proofs.Math.Option.{Option, none, some}
-use Rattle.tables.specs.declared.segments.Found.{Found}
-use Rattle.tables.specs.declared.segments.Found.TheVariants.{At, Nothing}
+use Rattle.std.specs.Prelude.{ℕ, ◌+◌, ◌≤◌, ◌<◌, List, map, length, get_or}
+use Rattle.std.specs.Prelude.{Option, None, Some, option_map}
+use Rattle.tables.specs.declared.entry.SegmentNo.{SegmentNo}
 use Rattle.gfa_spec.specs.Bytes.{part}
 use Rattle.gfa_spec.specs.Reading.{Segment}
-use Rattle.gfa_spec.specs.Records.{segment_number}
 use Rattle.work.specs.Rows.{rows_at}
 
 -- the segment whose row is at the word `at`: start and length of its line, of its ID and of its sequence
@@ -31,17 +29,11 @@ pub record SegmentRow (text work : List ℕ) (at : ℕ) : Type 0 where
 unfoldable pub ids_of : List Segment → List (List ℕ)
 ids_of ss = map (λ s. s.id) ss
 
--- the answer for a segment's number
-abbrev pub found_as : Option ℕ → Found
-found_as none = Nothing
-found_as (some k) = At (record { 0 = k })
+-- a segment's number, as the program's type has it
+abbrev pub segment_found : Option ℕ → Option SegmentNo
+segment_found o = option_map (λ k. record { 0 = k }) o
 
 -- a segment that was found is one of the first n
-abbrev pub FoundBelow : ℕ → Found → Type 0
-FoundBelow n (At k) = k.0 < n
-FoundBelow n Nothing = Unit {0}
-
--- What a search for a name finds: the first segment of the table so named.
-pub record FoundIs (text work : List ℕ) (base count name size : ℕ) (r : Found) : Type 0 where
-  pub answer : r ≡ found_as (segment_number (segments_at text work base count) (part name size text))
-  pub below : FoundBelow count r
+abbrev pub FoundBelow : ℕ → Option SegmentNo → Type 0
+FoundBelow n (Some k) = k.0 < n
+FoundBelow n None = Unit {0}

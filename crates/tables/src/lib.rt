@@ -2,6 +2,7 @@
 #![tactic(auto)]
 
 pub mod entry;
+pub mod graph;
 pub mod kinds;
 pub mod rows;
 pub mod segments;

@@ -1,24 +1,17 @@
-// Rows of the tables by their numbers: the words of a row come back by name, in a struct. What stands above this crate knows neither where a
-// row is nor how wide it is.
+// The rows of the tables by their numbers, put: a row's words by name, in a struct. What stands above this crate knows neither where a row is
+// nor how wide it is.
 ghost use Rattle.std.specs.Prelude.{◌+◌, ◌*◌, ◌≤◌, ◌<◌, length, [], ◌∷◌, ◌≡◌};
 ghost use Rattle.std.proofs.lemmas.List.Edits.{sets};
 ghost use Rattle.work.specs.Rows.{Small};
 ghost use Rattle.tables.specs.Entries.{words_of};
-ghost use Rattle.tables.specs.Tables.{Readable, Laid};
-ghost use Rattle.tables.specs.ByNumber.{tables_end, place_at, segment_words, link_words, path_words, step_words, Inside, LineIs, SegmentIs, LinkIs, PathIs, StepIs, NamedIs};
+ghost use Rattle.tables.specs.ByNumber.{segment_words, link_words, path_words, step_words};
 
-use crate::entry::{LineEntry, LinkNo, PathNo, SegmentNo, entry_at, put_entry};
-use crate::kinds::{PathKind, kind_of, kind_word};
-use crate::segments::{Found, find_segment};
-use crate::tables::{Bases, Counts, LINE, LINK, PATH, SEGMENT, STEP};
-use work::work::{put_row, word};
-
-// A part of the text.
-#[derive(Clone, Copy)]
-pub struct Place {
-    pub start: usize,
-    pub size: usize,
-}
+use crate::entry::{LinkNo, PathNo, Record, SegmentNo, words_of};
+use crate::kinds::PathKind;
+use crate::tables::{Bases, LINE, LINK, PATH, SEGMENT, STEP};
+use scan::orientation::Orientation;
+use scan::places::Place;
+use work::work::put_row;
 
 // A segment's row.
 #[derive(Clone, Copy)]
@@ -33,9 +26,9 @@ pub struct SegmentWords {
 pub struct LinkWords {
     pub line: Place,
     pub from: Place,
-    pub leaves: usize,
+    pub leaves: Orientation,
     pub to: Place,
-    pub enters: usize,
+    pub enters: Orientation,
 }
 
 // A path's row: its kind, its line, and its steps, from the first up to, not including, `end`.
@@ -51,98 +44,7 @@ pub struct PathWords {
 #[derive(Clone, Copy)]
 pub struct StepWords {
     pub name: Place,
-    pub mark: usize,
-}
-
-// The part of the text whose start and length are the words from `at` on.
-fn place_at(work: &[u32], at: usize) -> Place
-    requires { at + 2 ≤ length work.now }
-    ensures { result ≡ place_at work.now at }
-{
-    Place {
-        start: word(work, at),
-        size: word(work, at + 1),
-    }
-}
-
-// The word behind the last row of the last table.
-pub fn tables_end(work: &[u32], b: Bases, n: Counts) -> usize
-    requires { Laid b n (length work.now) }
-    ensures { result ≡ tables_end b n }
-{
-    b.steps + STEP * n.steps
-}
-
-// Line `i`.
-pub fn line_at(text: &[u8], work: &[u32], b: Bases, n: Counts, i: usize) -> LineEntry
-    requires { Readable text.now work.now b n × (i < n.lines) }
-    ensures { LineIs text.now work.now b n i result }
-{
-    entry_at(work, b.lines + LINE * i)
-}
-
-// Segment `i`.
-pub fn segment_at(text: &[u8], work: &[u32], b: Bases, n: Counts, i: SegmentNo) -> SegmentWords
-    requires { Readable text.now work.now b n × (i.0 < n.segs) }
-    ensures { SegmentIs text.now work.now b i.0 result }
-{
-    let at = b.segs + SEGMENT * i.0 as usize;
-    SegmentWords {
-        line: place_at(work, at),
-        id: place_at(work, at + 2),
-        sequence: place_at(work, at + 4),
-    }
-}
-
-// Link `i`.
-pub fn link_at(text: &[u8], work: &[u32], b: Bases, n: Counts, i: LinkNo) -> LinkWords
-    requires { Readable text.now work.now b n × (i.0 < n.links) }
-    ensures { LinkIs text.now work.now b i.0 result }
-{
-    let at = b.links + LINK * i.0 as usize;
-    LinkWords {
-        line: place_at(work, at),
-        from: place_at(work, at + 2),
-        leaves: word(work, at + 4),
-        to: place_at(work, at + 5),
-        enters: word(work, at + 7),
-    }
-}
-
-// Path `p`.
-pub fn path_at(text: &[u8], work: &[u32], b: Bases, n: Counts, p: PathNo) -> PathWords
-    requires { Readable text.now work.now b n × (p.0 < n.paths) }
-    ensures { PathIs text.now work.now b n p.0 result }
-{
-    let at = b.paths + PATH * p.0 as usize;
-    let first = word(work, at + 3);
-    let count = word(work, at + 4);
-    PathWords {
-        kind: kind_of(word(work, at)),
-        line: place_at(work, at + 1),
-        first,
-        end: first + count,
-    }
-}
-
-// Step `i` of the step table.
-pub fn step_at(text: &[u8], work: &[u32], b: Bases, n: Counts, i: usize) -> StepWords
-    requires { Readable text.now work.now b n × (i < n.steps) }
-    ensures { StepIs text.now work.now b i result }
-{
-    let at = b.steps + STEP * i;
-    StepWords {
-        name: place_at(work, at),
-        mark: word(work, at + 2),
-    }
-}
-
-// The first segment that has the name.
-pub fn segment_named(text: &[u8], work: &[u32], b: Bases, n: Counts, name: Place) -> Found
-    requires { Readable text.now work.now b n × Inside text.now name }
-    ensures { NamedIs text.now work.now b n name result }
-{
-    find_segment(text, work, b.segs, n.segs, name.start, name.size)
+    pub mark: Orientation,
 }
 
 // The word at which step `i` stands.
@@ -154,11 +56,11 @@ pub fn step_place(b: Bases, i: usize) -> usize
 }
 
 // Puts line `i`.
-pub fn put_line(work: &mut [u32], b: Bases, i: usize, entry: LineEntry)
+pub fn put_line(work: &mut [u32], b: Bases, i: usize, record: Record)
     requires { b.lines + 3 * i + 3 ≤ length work.old }
-    ensures { work.new ≡ sets work.old (b.lines + 3 * i) (words_of entry.holds) }
+    ensures { work.new ≡ sets work.old (b.lines + 3 * i) (words_of «record») }
 {
-    put_entry(work, b.lines + LINE * i, entry);
+    put_row(work, b.lines + LINE * i, &words_of(record));
 }
 
 // Puts segment `i`.
@@ -195,10 +97,10 @@ pub fn put_link(work: &mut [u32], b: Bases, i: LinkNo, l: LinkWords)
             l.line.size,
             l.from.start,
             l.from.size,
-            l.leaves,
+            l.leaves.sign() as usize,
             l.to.start,
             l.to.size,
-            l.enters,
+            l.enters.sign() as usize,
         ],
     );
 }
@@ -209,12 +111,11 @@ pub fn put_path(work: &mut [u32], b: Bases, p: PathNo, w: PathWords)
     ensures { work.new ≡ sets work.old (b.paths + 5 * p.0) (path_words w) }
 {
     let at = b.paths + PATH * p.0 as usize;
-    let kind = w.kind;
     put_row(
         work,
         at,
         &[
-            kind_word(kind),
+            w.kind.word(),
             w.line.start,
             w.line.size,
             w.first,
@@ -228,5 +129,9 @@ pub fn put_step(work: &mut [u32], base: usize, i: usize, s: StepWords)
     requires { (base + 3 * i + 3 ≤ length work.old) × Small (step_words s) }
     ensures { work.new ≡ sets work.old (base + 3 * i) (step_words s) }
 {
-    put_row(work, base + STEP * i, &[s.name.start, s.name.size, s.mark]);
+    put_row(
+        work,
+        base + STEP * i,
+        &[s.name.start, s.name.size, s.mark.sign() as usize],
+    );
 }

@@ -7,29 +7,27 @@ use mathlib.Core.Logic.{inl}
 use mathlib.Core.Path.{◌≡◌, refl, sym, subst, ◌∙◌}
 use lib.ListN.{length}
 use borrow.Author.Tests.{not-true, not-false}
+use Rattle.std.specs.Prelude.{Option, Some, None}
 use Rattle.gfa_spec.specs.Bytes.{keep}
 use Rattle.gfa_spec.specs.Records.{is_self_link}
 use Rattle.gfa_spec.proofs.Tests.{by_test}
-use Rattle.scan.specs.Places.{SameIs}
 use Rattle.work.specs.Rows.{span}
 use Rattle.work.proofs.Rows.{only_none, only_then, only_kept, outside_less}
 use Rattle.tables.specs.declared.tables.Bases.{Bases}
 use Rattle.tables.specs.declared.tables.Counts.{Counts}
-use Rattle.tables.specs.declared.rows.Place.{Place}
+use Rattle.scan.specs.declared.places.Place.{Place}
 use Rattle.tables.specs.declared.rows.LinkWords.{LinkWords}
-use Rattle.tables.specs.ByNumber.{segments_of, links_to, tables_end, LinkIs}
+use Rattle.tables.specs.ByNumber.{segments_of, links_to, link_of, tables_end, LinkIs}
 use Rattle.runs.specs.Counts.{over_rows}
 use Rattle.tables.proofs.ByNumber.{TablesKept, readable_stands, links_more, links_zero, links_length, segments_stand, links_stand, paths_stand}
 use Rattle.report_spec.specs.Nodes.{each_once}
-use Rattle.nodes.specs.declared.nodes.TableRow.{TableRow}
-use Rattle.nodes.specs.declared.nodes.TableRow.TheVariants.{At, Nowhere}
 use Rattle.nodes.specs.Table.{nodes_end, node_no, counter_no, name_no, names_to, RowPut, NamesInside, SearchIs, row_with_link, links_among, NodeTable}
 use Rattle.nodes.proofs.Pairs.{bits_small}
 use Rattle.nodes.proofs.Stored.{put_within}
 use Rattle.nodes.proofs.Finding.{nowhere, found}
 use Rattle.tally.specs.Tabled.{Tabled, NodeAdded, NodesIs, LinkReady, LinkAdded}
 use Rattle.tally.proofs.Names.{is_on}
-use Rattle.tally.proofs.NodeRows.{link_of, table_other, table_new, table_more, fresh_new, fresh_more}
+use Rattle.tally.proofs.NodeRows.{table_other, table_new, table_more, fresh_new, fresh_more}
 
 -- ---- the tables stand
 
@@ -66,7 +64,7 @@ module _ {text w : List ℕ} {b : Bases} {n : Counts} {i m : ℕ} (p : LinkReady
         rw at (record { room = omega (arith, r.laid.steps, room_left); few = omega (arith, r.few.2, room_left); inside = p.table.inside })
 
     -- what a row holds is small
-    pub row_small : {name : Place} {q : TableRow} {k : ℕ} → SearchIs text w table m name q → q ≡ At k → (nodes_end table (k + 1) ≤ length w) × ((node_no w table k).links < 2097152) × ((node_no w table k).bits < 16)
+    pub row_small : {name : Place} {q : Option ℕ} {k : ℕ} → SearchIs text w table m name q → q ≡ Some k → (nodes_end table (k + 1) ≤ length w) × ((node_no w table k).links < 2097152) × ((node_no w table k).bits < 16)
     unfolding links_among is_on
     row_small {name} {q} {k} f g =
         let h = (found f g).below in
@@ -79,24 +77,20 @@ module _ {text w : List ℕ} {b : Bases} {n : Counts} {i m : ℕ} (p : LinkReady
           rw r.bits (bits_small (links_among (links_to text w b i) node)),
         )
 
-  module _ {l : LinkWords} {r : Bool} (is : LinkIs text w b i l) (e : SameIs text l.from.start l.from.size l.to.start l.to.size r) where
+  module _ {l : LinkWords} {r : Bool} (is : LinkIs text w b i l) (e : r ≡ is_self_link (link_of text l)) where
     more : links_to text w b (i + 1) ≡ links_to text w b i ++ (link_of text l ∷ [])
     more = rw (← is.link) (links_more text w b i)
 
-    self : (t : Bool) → r ≡ t → is_self_link (link_of text l) ≡ t
-    unfolding is_self_link
-    self t h = sym e.answer ∙ h
-
     pub linked_other : not r ≡ true → LinkAdded text w w b n i m m
-    linked_other h = record { is = record { table = rw more (table_other p.table l (self false (not-true r h))); fresh = p.fresh; long = refl; only = only_none }; low = omega arith }
+    linked_other h = record { is = record { table = rw more (table_other p.table l (sym e ∙ not-true r h)); fresh = p.fresh; long = refl; only = only_none }; low = omega arith }
 
-    module _ {table : ℕ} {q : TableRow} {w' : List ℕ} (h : not r ≡ false) (at : table ≡ tables_end b n) (f : SearchIs text w table m l.from q) where
-      pub linked_new : q ≡ Nowhere → NodeAdded text w w' b n m l → LinkAdded text w w' b n i m (m + 1)
+    module _ {table : ℕ} {q : Option ℕ} {w' : List ℕ} (h : not r ≡ false) (at : table ≡ tables_end b n) (f : SearchIs text w table m l.from q) where
+      pub linked_new : q ≡ None → NodeAdded text w w' b n m l → LinkAdded text w w' b n i m (m + 1)
       linked_new g a =
           record {
             is =
                 record {
-                  table = rw more (table_new p.table l (self true (not-false r h)) (nowhere (rw at at f) g) is.from a.put);
+                  table = rw more (table_new p.table l (sym e ∙ not-false r h) (nowhere (rw at at f) g) is.from a.put);
                   fresh = fresh_new a.put p.fresh;
                   long = a.put.long;
                   only = put_within a.put (omega arith);
@@ -104,14 +98,17 @@ module _ {text w : List ℕ} {b : Bases} {n : Counts} {i m : ℕ} (p : LinkReady
             low = omega arith;
           }
 
-      pub linked_more : {k : ℕ} → q ≡ At k → RowPut w w' table k (row_with_link (node_no w table k) l) (counter_no w table k) → LinkAdded text w w' b n i m m
+      pub linked_more : {k : ℕ} → q ≡ Some k → RowPut w w' table k (row_with_link (node_no w table k) l) (counter_no w table k) → LinkAdded text w w' b n i m m
       linked_more g a =
           let here = found (rw at at f) g in
           let put = rw at at a in
           record {
-            is = record { table = rw more (table_more p.table l (self true (not-false r h)) here put); fresh = fresh_more put refl p.fresh; long = put.long; only = put_within put here.below };
+            is = record { table = rw more (table_more p.table l (sym e ∙ not-false r h) here put); fresh = fresh_more put refl p.fresh; long = put.long; only = put_within put here.below };
             low = omega arith;
           }
+
+-- what a link goes on by
+pub ruleset counting = (few_more, room_left, names_inside, row_small)
 
 -- ---- the pass
 

@@ -13,7 +13,8 @@ use Rattle.gfa_spec.specs.Records.{is_self_link}
 use Rattle.gfa_spec.specs.Runs.{bit}
 use Rattle.gfa_spec.proofs.Tests.{same_equal, same_refl, same_sym, any_append}
 use Rattle.tables.specs.declared.rows.LinkWords.{LinkWords}
-use Rattle.tables.specs.ByNumber.{bytes_in, Inside}
+use Rattle.scan.specs.Places.{bytes_in, Inside}
+use Rattle.tables.specs.ByNumber.{link_of}
 use Rattle.report_spec.specs.Nodes.{each_once}
 use Rattle.nodes.specs.declared.nodes.NodeWords.{NodeWords}
 use Rattle.nodes.specs.Counters.{no_counter, CounterOf}
@@ -45,10 +46,6 @@ module _ (text w x : List ℕ) (table : ℕ) where
 
 -- ---- a link
 
--- the link of such words
-abbrev pub link_of : List ℕ → LinkWords → Link
-link_of text l = record { from = bytes_in text l.from; from_orientation = l.leaves; to = bytes_in text l.to; to_orientation = l.enters; line = bytes_in text l.line }
-
 module _ {text : List ℕ} {ss : List Segment} {ls : List Link} {a : NodeWords} (l : LinkWords) (r : LinkCounts text ss ls a) where
   -- a link that is not on the row's node changes nothing in it
   counts_elsewhere : is_on (bytes_in text a.name) (link_of text l) ≡ false → LinkCounts text ss (ls ++ (link_of text l ∷ [])) a
@@ -65,7 +62,7 @@ module _ {text : List ℕ} {ss : List Segment} {ls : List Link} {a : NodeWords} 
         number = r.number;
         long = r.long;
         links = rw (more, length-append, r.links);
-        bits = rw (more, r.bits) (bits_more old (link_of text l));
+        bits = rw (more, r.bits) (bits_more text old l);
       }
 
 module _ {text : List ℕ} {ss : List Segment} {ls : List Link} {w : List ℕ} {table n : ℕ} (t : NodeTable text ss ls w table n) (l : LinkWords) where
@@ -112,7 +109,7 @@ module _ {text : List ℕ} {ss : List Segment} {ls : List Link} {w : List ℕ} {
           record { number = refl; long = refl; links = rw mine; bits = rw mine one_pair }
         where
           one_pair : marked_of 0 l.leaves l.enters ≡ bits_of (link_of text l ∷ [])
-          one_pair = unfold bits_of code any bit in bits_more [] (link_of text l)
+          one_pair = unfold bits_of code any bit in bits_more text [] l
 
       pub table_new : NodeTable text ss (ls ++ (link_of text l ∷ [])) w' table (n + 1)
       unfolding loop_names any names_to

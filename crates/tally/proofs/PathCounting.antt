@@ -5,7 +5,7 @@ use native.Mathlib.Omega.{arith}
 use mathlib.Core.Bool.{Bool, true, false, cond, ◌&&◌, ◌||◌, false≢true}
 use mathlib.Core.List.{List, [], ◌∷◌, ◌++◌, map, map-append}
 use mathlib.Core.Path.{◌≡◌, refl, ◌∙◌}
-use mathlib.Core.Option.{Option-elim}
+use Rattle.gfa_spec.specs.Options.{map_or}
 use lib.Dec.{eqb, ltb}
 use lib.ListN.{length, length-append}
 use borrow.Author.Tests.{ltb-true, ltb-false, leb-true, eq-eqb, ne_eqb}
@@ -95,7 +95,7 @@ named_less (suc k) ps p h = rw (less k ps h)
     less (suc k) (q ∷ ps) h = less k ps (omega arith)
 
 named_last : (ps : List Path) (p : Path) → named (length ps + 1) (ps ++ (p ∷ [])) ≡ path_name p
-unfolding named nth_path Option-elim
+unfolding named nth_path map_or
 named_last [] p = refl
 named_last (q ∷ ps) p = rw add-one (rw add-one at (named_last ps p))
 

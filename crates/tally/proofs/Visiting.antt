@@ -8,26 +8,26 @@ use mathlib.Core.Logic.{inl}
 use mathlib.Core.Path.{◌≡◌, refl, sym, ap, ◌∙◌}
 use lib.Dec.{eqb, leb}
 use lib.ListN.{length}
+use Rattle.std.specs.Prelude.{Option, Some, None}
 use Rattle.gfa_spec.specs.Bytes.{same}
 use Rattle.gfa_spec.specs.Reading.{Step}
 use Rattle.gfa_spec.specs.Runs.{Run, runs, bit}
 use Rattle.gfa_spec.proofs.Tests.{by_test, same_equal, same_sym}
 use Rattle.gfa_spec.proofs.Counting.{bit_small}
 use Rattle.gfa_spec.proofs.Runs.{extend_first}
-use Rattle.scan.specs.Places.{part_at, SameIs}
+use Rattle.scan.specs.Places.{part_at, bytes_in}
+use Rattle.scan.specs.Orientations.{sign_of}
 use Rattle.work.specs.Rows.{span, Small}
 use Rattle.work.proofs.Rows.{KeptWords, only_none, only_then, only_kept}
 use Rattle.tables.specs.declared.tables.Bases.{Bases}
 use Rattle.tables.specs.declared.tables.Counts.{Counts}
-use Rattle.tables.specs.declared.rows.Place.{Place}
+use Rattle.scan.specs.declared.places.Place.{Place}
 use Rattle.tables.specs.declared.rows.StepWords.{StepWords}
-use Rattle.tables.specs.ByNumber.{step_no, steps_from, tables_end, bytes_in, StepIs}
+use Rattle.tables.specs.ByNumber.{step_no, steps_from, tables_end, StepIs}
 use Rattle.runs.specs.Runs.{RunFrom}
 use Rattle.tables.proofs.ByNumber.{readable_stands, steps_none, steps_next}
 use Rattle.report_spec.specs.Nodes.{on}
 use Rattle.nodes.specs.declared.counters.Counter.{Counter}
-use Rattle.nodes.specs.declared.nodes.TableRow.{TableRow}
-use Rattle.nodes.specs.declared.nodes.TableRow.TheVariants.{At, Nowhere}
 use Rattle.nodes.specs.Counters.{is_longer, counted_of, counter_words, CounterFits, goes_on, finish}
 use Rattle.nodes.specs.Table.{nodes_end, node_no, counter_no, name_no, RowPut, SearchIs}
 use Rattle.nodes.proofs.Counting.{finish_here, finish_elsewhere}
@@ -97,18 +97,18 @@ counted_small {times} {path} {c} more f t p =
 -- ---- a run
 
 -- the row of the node that has the name: it stands in the work area, and its counters fit
-module _ {text w : List ℕ} {table m k : ℕ} {name : Place} {q : TableRow} (f : SearchIs text w table m name q) (g : q ≡ At k) where
+module _ {text w : List ℕ} {table m k : ℕ} {name : Place} {q : Option ℕ} (f : SearchIs text w table m name q) (g : q ≡ Some k) where
   pub run_room : Countable text w table m → nodes_end table (k + 1) ≤ length w
   run_room c = omega (arith, c.names.room, found f g)
 
   pub run_fits_here : {times path : ℕ} {c : Counter} → FitRows times path w table m → c ≡ counter_no w table k → CounterFits times path c
   run_fits_here e z = rw z (e.row k (found f g).below)
 
-module _ {text w : List ℕ} {table m : ℕ} {name : Place} {q : TableRow} {times path : ℕ} {more : Bool} (f : SearchIs text w table m name q) where
-  pub run_nowhere : q ≡ Nowhere → RunCounted text w w table m name times path more
+module _ {text w : List ℕ} {table m : ℕ} {name : Place} {q : Option ℕ} {times path : ℕ} {more : Bool} (f : SearchIs text w table m name q) where
+  pub run_nowhere : q ≡ None → RunCounted text w w table m name times path more
   run_nowhere g = record { rows = λ k h. rw (same_sym (bytes_in text name) (name_no text w table k), (nowhere f g).other k h); frame = recounted_none }
 
-  module _ {k : ℕ} (g : q ≡ At k) where
+  module _ {k : ℕ} (g : q ≡ Some k) where
     pub run_counted : {w' : List ℕ} {c d : Counter} → Countable text w table m → d ≡ counter_no w table k → c ≡ counted_of d times path more → RowPut w w' table k (node_no w table k) c
         → RunCounted text w w' table m name times path more
     run_counted {w'} {c} {d} a o e p =
@@ -141,19 +141,22 @@ run_fits {text} {w} {w'} {table} {m} {name} {times} {path} {left} {more} r t e =
 -- ---- the step behind a run
 
 module _ {text w : List ℕ} {b : Bases} {name : Place} {r end : ℕ} where
-  pub goes_no : r ≡ end → GoesOn text w b name r end false
-  goes_no e = record { is = rw (steps_none text w b r end (omega arith)) (unfold runs goes_on in refl) }
+  pub goes_no : end ≤ r → GoesOn text w b name r end false
+  goes_no h = record { is = rw (steps_none text w b r end h) (unfold runs goes_on in refl) }
 
-  pub goes_there : {s : StepWords} {t : Bool} → r ≤ end → (r ≡ end → ⊥) → StepIs text w b r s → SameIs text name.start name.size s.name.start s.name.size t → GoesOn text w b name r end t
-  goes_there {s} {t} h l is e = record { is = rw (steps_next text w b r end (omega arith), is.step) (go (steps_from text w b (r + 1) end)) }
+  pub goes_there : {s : StepWords} {t : Bool} → r < end → StepIs text w b r s → t ≡ same (bytes_in text name) (bytes_in text s.name) → GoesOn text w b name r end t
+  goes_there {s} {t} h is e = record { is = rw (steps_next text w b r end h, is.step) (go (steps_from text w b (r + 1) end)) }
     where
       here : Step
-      here = record { name = part_at text s.name.start s.name.size; orientation = s.mark }
+      here = record { name = part_at text s.name.start s.name.size; orientation = sign_of s.mark }
 
       go : (ss : List Step) → t ≡ goes_on (bytes_in text name) (runs (here ∷ ss))
       go ss =
           let (k, more, f) = extend_first here (runs ss) in
-          unfold runs in rw f (unfold goes_on on part_at in (e.answer ∙ same_sym (bytes_in text name) (bytes_in text s.name)))
+          unfold runs in rw f (unfold goes_on on part_at in (e ∙ same_sym (bytes_in text name) (bytes_in text s.name)))
+
+-- what tells whether it is on the name goes on by
+pub ruleset going_on = (goes_no, goes_there)
 
 -- ---- the next run
 

@@ -3,11 +3,13 @@ use Rattle.std.specs.Prelude.{ℕ, ◌+◌, ◌≤◌, ◌<◌, List, [], ◌∷
 use Rattle.gfa_spec.specs.Reading.{Segment}
 use Rattle.gfa_spec.specs.Records.{segment_number, sequence_or_empty}
 use Rattle.gfa_spec.specs.Sequences.{sequence_len}
-use Rattle.work.specs.Rows.{span, Only, word_of}
+use Rattle.work.specs.Rows.{span, Only}
 use Rattle.tables.specs.declared.tables.Bases.{Bases}
 use Rattle.tables.specs.declared.tables.Counts.{Counts}
 use Rattle.tables.specs.declared.rows.LinkWords.{LinkWords}
-use Rattle.tables.specs.ByNumber.{segments_of, links_to, tables_end, bytes_in}
+use Rattle.scan.specs.Places.{bytes_in}
+use Rattle.tables.specs.Segments.{segment_found}
+use Rattle.tables.specs.ByNumber.{segments_of, links_to, tables_end}
 use Rattle.tables.specs.Tables.{Readable}
 use Rattle.runs.specs.Counts.{over_rows}
 use Rattle.nodes.specs.declared.nodes.NodeWords.{NodeWords}
@@ -25,7 +27,7 @@ abbrev pub new_node : List ℕ → List Segment → LinkWords → NodeWords
 new_node text ss l =
     record {
       name = l.from;
-      number = word_of (segment_number ss (bytes_in text l.from));
+      number = segment_found (segment_number ss (bytes_in text l.from));
       long = sequence_len (sequence_or_empty ss (bytes_in text l.from));
       links = 1;
       bits = marked_of 0 l.leaves l.enters;

@@ -5,8 +5,9 @@ use Rattle.gfa_spec.specs.Runs.{runs}
 use Rattle.work.specs.Rows.{span, Only}
 use Rattle.tables.specs.declared.tables.Bases.{Bases}
 use Rattle.tables.specs.declared.tables.Counts.{Counts}
-use Rattle.tables.specs.declared.rows.Place.{Place}
-use Rattle.tables.specs.ByNumber.{paths_to, steps_from, tables_end, bytes_in}
+use Rattle.scan.specs.declared.places.Place.{Place}
+use Rattle.scan.specs.Places.{bytes_in}
+use Rattle.tables.specs.ByNumber.{paths_to, steps_from, tables_end}
 use Rattle.tables.specs.Tables.{Readable}
 use Rattle.nodes.specs.Counters.{counted_of, goes_on, finish, CounterFits}
 use Rattle.nodes.specs.Table.{nodes_end, node_no, counter_no, name_no, NamesInside, CountRows, Differ}

@@ -4,7 +4,7 @@ use native.Mathlib.Omega.{arith}
 use mathlib.Core.Bool.{Bool, false, ◌||◌, or-true, or-false, or_assoc}
 use mathlib.Core.List.{List, [], ◌∷◌}
 use mathlib.Core.Logic.{inl}
-use mathlib.Core.Option.{Option-elim}
+use Rattle.gfa_spec.specs.Options.{map_or}
 use mathlib.Core.Path.{◌≡◌, refl, ◌∙◌}
 use lib.Dec.{eqb}
 use lib.ListN.{length, get_or, set, length-set}
@@ -18,11 +18,12 @@ use Rattle.work.specs.Rows.{span, Only, Cleared}
 use Rattle.work.proofs.Rows.{only_none, only_then, only_kept}
 use Rattle.tables.specs.declared.tables.Bases.{Bases}
 use Rattle.tables.specs.declared.tables.Counts.{Counts}
-use Rattle.tables.specs.declared.segments.Found.{Found}
-use Rattle.tables.specs.declared.segments.Found.TheVariants.{At, Nothing}
+use Rattle.std.specs.Prelude.{Option, None, Some}
+use Rattle.tables.specs.declared.entry.SegmentNo.{SegmentNo}
 use Rattle.tables.proofs.Standing.{Standing, tables_stand}
-use Rattle.tables.specs.declared.rows.Place.{Place}
-use Rattle.tables.specs.ByNumber.{segment_no, tables_end, bytes_in, NamedIs}
+use Rattle.scan.specs.declared.places.Place.{Place}
+use Rattle.scan.specs.Places.{bytes_in}
+use Rattle.tables.specs.ByNumber.{segment_no, tables_end, NamedIs}
 use Rattle.tables.proofs.ByNumber.{TablesKept, readable_stands, segment_stands}
 use Rattle.normalize_tables.specs.declared.layout.Layout.{Layout}
 use Rattle.normalize_tables.specs.Layout.{Source}
@@ -102,9 +103,9 @@ module _ {text w : List ℕ} {b : Bases} {n : Counts} {marks : ℕ} where
 
 -- ---- a mark by a name
 
-module _ {text w : List ℕ} {b : Bases} {n : Counts} {marks : ℕ} {name : Place} {r : Found} (m : Markable text w b n marks) (f : NamedIs text w b n name r) where
-  pub named_none : r ≡ Nothing → NameMarked text w w b n marks name
-  unfolding Option-elim
+module _ {text w : List ℕ} {b : Bases} {n : Counts} {marks : ℕ} {name : Place} {r : Option SegmentNo} (m : Markable text w b n marks) (f : NamedIs text w b n name r) where
+  pub named_none : r ≡ None → NameMarked text w w b n marks name
+  unfolding map_or
   named_none e =
       record {
         adds =
@@ -112,14 +113,14 @@ module _ {text w : List ℕ} {b : Bases} {n : Counts} {marks : ℕ} {name : Plac
             (λ p q i h. q.mark i h ∙ rw (row_named text w b n m.apart (bytes_in text name) i h, unnamed_number f e, or-false));
       }
 
-  module _ {k : ℕ} (e : r ≡ At (record { 0 = k })) where
+  module _ {k : ℕ} (e : r ≡ Some (record { 0 = k })) where
     named_only : Only (span marks (marks + n.segs) ∷ []) w (set w (marks + k) 1)
     named_only = let l = named_below f e in only_set w (marks + k) 1 (omega arith) (omega arith)
 
     -- the segment of the number that was found is marked
     named_word : (p : Segment → Bool) → Marked p text w b n marks → (i : ℕ) → i < n.segs
         → get_or (set w (marks + k) 1) (marks + i) 0 ≡ bit (p (segment_no text w b i) || same (segment_no text w b i).id (bytes_in text name))
-    unfolding Option-elim
+    unfolding map_or
     named_word p q i h =
         rw (row_named text w b n m.apart (bytes_in text name) i h, named_number f e)
         (by_test (eqb i k)

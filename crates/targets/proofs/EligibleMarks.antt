@@ -1,32 +1,32 @@
 -- The passes that mark the eligible segments. Assumes nothing.
 use Prim.Native.Nat.{ℕ, ◌+◌, ◌≤◌, ◌<◌}
 use native.Mathlib.Omega.{arith}
-use mathlib.Core.Bool.{Bool, true, false, not, ◌&&◌}
+use mathlib.Core.Bool.{Bool, true, false, ◌&&◌}
 use mathlib.Core.List.{List, [], ◌∷◌}
-use mathlib.Core.Path.{◌≡◌, sym, ◌∙◌}
+use mathlib.Core.Path.{◌≡◌, refl, sym, ◌∙◌}
 use lib.Dec.{eqb, leb}
 use lib.ListN.{length, get_or, set, length-set}
-use borrow.Author.Tests.{eq-eqb, ne_eqb, not-true, not-false}
-use Rattle.gfa_spec.specs.Bytes.{part, same, star, is_empty, any}
+use borrow.Author.Tests.{eq-eqb, ne_eqb}
+use Rattle.gfa_spec.specs.Bytes.{same, star, is_empty, any}
+use Rattle.gfa_spec.specs.Records.{is_self_link}
 use Rattle.gfa_spec.specs.Runs.{bit}
-use Rattle.gfa_spec.proofs.Parts.{length_part, part_none, part_head}
 use Rattle.gfa_spec.proofs.Tests.{by_test, both, clash, refute, equal_same, same_equal, same_sym}
 use Rattle.gfa_spec.proofs.Counting.{bit_set}
 use Rattle.normalize_spec.specs.Folding.{self_linked, within, is_unit}
 use Rattle.normalize_spec.proofs.Marks.{linked_snoc}
-use Rattle.scan.specs.Places.{SameIs}
+use Rattle.scan.specs.Places.{bytes_in}
 use Rattle.work.specs.Rows.{span, Cleared}
 use Rattle.work.proofs.Rows.{only_then}
 use Rattle.tables.specs.declared.tables.Bases.{Bases}
 use Rattle.tables.specs.declared.tables.Counts.{Counts}
 use Rattle.tables.specs.declared.rows.SegmentWords.{SegmentWords}
 use Rattle.tables.specs.declared.rows.LinkWords.{LinkWords}
-use Rattle.tables.specs.ByNumber.{segment_no, link_no, links_to, bytes_in, SegmentIs, LinkIs}
+use Rattle.tables.specs.ByNumber.{segment_no, link_no, links_to, link_of, SegmentIs, LinkIs}
 use Rattle.tables.proofs.ByNumber.{links_more, TablesKept, segment_stands, link_stands, links_zero}
 use Rattle.normalize_tables.specs.declared.layout.Layout.{Layout}
 use Rattle.normalize_tables.specs.Layout.{Source}
 use Rattle.targets.specs.Marking.{Markable, Adds, NameMarked, LinkMarked, UnitsKept, MarkedIs}
-use Rattle.work.proofs.Filling.{only_set, Filling, filling_start, filling_ahead, filling_behind, filling_more, filling_end}
+use Rattle.work.proofs.Filling.{only_set, Filling, filling_ahead, filling_behind, filling_more, filling_end}
 use Rattle.targets.proofs.Adding.{eligible_marks, tables_kept, tables_same, marked_by, markable_stands, cleared_marks, adds_none, adds_alike, adds_then}
 
 -- ---- self-links
@@ -42,12 +42,14 @@ module _ (x y name : List ℕ) where
   one_name h = same_sym name x ∙ rw (← same_equal x y h) (by_test (same x name) (λ e. rw e) (λ e. rw e))
 
 module _ {text w : List ℕ} {b : Bases} {n : Counts} {marks i : ℕ} {l : LinkWords} {r : Bool} (q : LinkIs text w b i l)
-    (e : SameIs text l.from.start l.from.size l.to.start l.to.size r) where
-  pub link_other : Markable text w b n marks → not r ≡ true → LinkMarked text w w b n marks i
-  link_other m h = record { adds = adds_alike (adds_none m) (λ s. rw q.link (other_name (bytes_in text l.from) (bytes_in text l.to) s.id (sym e.answer ∙ not-true r h))) }
+    (e : r ≡ is_self_link (link_of text l)) where
+  pub link_other : Markable text w b n marks → r ≡ false → LinkMarked text w w b n marks i
+  unfolding is_self_link
+  link_other m h = record { adds = adds_alike (adds_none m) (λ s. rw q.link (other_name (bytes_in text l.from) (bytes_in text l.to) s.id (sym e ∙ h))) }
 
-  pub link_marked : {w' : List ℕ} → not r ≡ false → NameMarked text w w' b n marks l.from → LinkMarked text w w' b n marks i
-  link_marked h a = record { adds = adds_alike a.adds (λ s. rw q.link (one_name (bytes_in text l.from) (bytes_in text l.to) s.id (sym e.answer ∙ not-false r h))) }
+  pub link_marked : {w' : List ℕ} → r ≡ true → NameMarked text w w' b n marks l.from → LinkMarked text w w' b n marks i
+  unfolding is_self_link
+  link_marked h a = record { adds = adds_alike a.adds (λ s. rw q.link (one_name (bytes_in text l.from) (bytes_in text l.to) s.id (sym e ∙ h))) }
 
 -- The state at link i: the segments with a self-link among those before it are marked.
 pub record Linking (text before work : List ℕ) (b : Bases) (n : Counts) (marks i : ℕ) : Type 0 where
@@ -70,35 +72,40 @@ module _ {text before : List ℕ} {b : Bases} {n : Counts} {marks : ℕ} where
           adds = adds_alike (adds_then s.adds a.adds) (λ t. rw (links_more, here) (sym (linked_snoc (links_to text before b i) (link_no text before b i) t.id)));
         }
 
-    pub linking_end : n.links ≤ i → Adds (λ t. self_linked (links_to text before b n.links) t.id) text before work b n marks
-    linking_end h = let e : i ≡ n.links = omega (arith, s.high) in rw e at s.adds
-
 -- ---- units
 
-module _ (text : List ℕ) (from size cap : ℕ) (inside : from + size ≤ length text) where
-  pub unit_empty : size ≡ 0 → ◌≡◌ {A = Bool} false (is_unit cap (part from size text))
-  unfolding is_unit is_empty same star
-  unit_empty e = rw (e, part_none from text)
+empty_list : (unit : List ℕ) → length unit ≡ 0 → unit ≡ []
+empty_list [] e = refl
+empty_list (b ∷ unit) e = absurd (omega arith)
 
-  pub unit_star : {r : Bool} → r ≡ same (part from size text) star → r ≡ true → ◌≡◌ {A = Bool} false (is_unit cap (part from size text))
+not_empty : (unit : List ℕ) → (length unit ≡ 0 → ⊥) → is_empty unit ≡ false
+unfolding is_empty
+not_empty [] h = absurd (h refl)
+not_empty (b ∷ unit) h = refl
+
+module _ (unit : List ℕ) (cap : ℕ) where
+  pub unit_empty : length unit ≡ 0 → ◌≡◌ {A = Bool} false (is_unit cap unit)
+  unfolding is_unit is_empty same star
+  unit_empty e = rw (empty_list unit e)
+
+  pub unit_star : {r : Bool} → r ≡ same unit star → r ≡ true → ◌≡◌ {A = Bool} false (is_unit cap unit)
   unfolding is_unit
   unit_star e h = rw (sym e ∙ h)
 
-  module _ (some : size ≡ 0 → ⊥) {r : Bool} (e : r ≡ same (part from size text) star) (h : r ≡ false) where
-    unit_within : within cap size ≡ is_unit cap (part from size text)
-    unfolding is_unit is_empty
-    unit_within =
-        let l = length_part from size text inside in
-        let t : is_empty (part from size text) ≡ false = unfold is_empty in rw (part_head from size text inside (omega arith)) in
-        rw (sym e ∙ h, t, l)
+  module _ (some : length unit ≡ 0 → ⊥) {r : Bool} (e : r ≡ same unit star) (h : r ≡ false) where
+    unit_within : within cap (length unit) ≡ is_unit cap unit
+    unfolding is_unit
+    unit_within = rw (sym e ∙ h, not_empty unit some)
 
-    pub unit_free : cap ≡ 0 → ◌≡◌ {A = Bool} true (is_unit cap (part from size text))
+    pub unit_free : cap ≡ 0 → eqb cap 0 ≡ is_unit cap unit
     unfolding within
-    unit_free z = rw (eq-eqb cap 0 z) at unit_within
+    unit_free z = rw (eq-eqb cap 0 z) (rw (eq-eqb cap 0 z) at unit_within)
 
-    pub unit_capped : (cap ≡ 0 → ⊥) → leb size cap ≡ is_unit cap (part from size text)
+    pub unit_capped : (cap ≡ 0 → ⊥) → leb (length unit) cap ≡ is_unit cap unit
     unfolding within
     unit_capped z = rw (ne_eqb cap 0 z) at unit_within
+
+pub ruleset units = (unit_empty, unit_star, unit_free, unit_capped)
 
 -- the mark that segment i is left with
 abbrev pub unit_at : ℕ → List ℕ → List ℕ → Bases → ℕ → ℕ → ℕ
@@ -111,20 +118,17 @@ pub record Leaving (cap : ℕ) (text before work : List ℕ) (b : Bases) (n : Co
   pub stored : Filling (unit_at cap text before b marks) before work marks n.segs i
 
 module _ {cap : ℕ} {text before : List ℕ} {b : Bases} {n : Counts} {marks : ℕ} where
-  pub leaving_start : Markable text before b n marks → Leaving cap text before before b n marks 0
-  leaving_start m = record { markable = m; ready = m; stored = filling_start m.room }
-
-  pub leaving_more : {work : List ℕ} {i mark x : ℕ} {r : SegmentWords} {u : Bool} → Leaving cap text before work b n marks i → i < n.segs → SegmentIs text work b i r
-      → mark ≡ get_or work (marks + i) 0 → u ≡ is_unit cap (bytes_in text r.sequence) → (x ≡ bit (eqb mark 1 && u)) × (x ≤ 1)
+  pub leaving_more : {work : List ℕ} {i mark x : ℕ} {r : SegmentWords} {u : Bool} {unit : List ℕ} → Leaving cap text before work b n marks i → i < n.segs → SegmentIs text work b i r
+      → mark ≡ get_or work (marks + i) 0 → unit ≡ bytes_in text r.sequence → u ≡ is_unit cap unit → (x ≡ bit (eqb mark 1 && u)) × (x ≤ 1)
       → Leaving cap text before (set work (marks + i) x) b n marks (i + 1)
-  leaving_more {work} {i} {mark} {x} s h q em eu ex =
+  leaving_more {work} {i} {mark} {x} s h q em es eu ex =
       let behind = s.markable.behind in
       let tables : TablesKept b n before work = record { word = λ j l u. filling_behind s.stored j (omega arith) } in
       let here = sym (segment_stands s.markable.readable tables i h) ∙ q.segment in
       record {
         markable = s.markable;
         ready = markable_stands s.ready (only_set work (marks + i) x (omega arith) (omega arith)) (length-set work (marks + i) x);
-        stored = filling_more s.stored x h (ex.0 ∙ rw (eu, em, here, filling_ahead s.stored (marks + i) (omega arith)));
+        stored = filling_more s.stored x h (ex.0 ∙ rw (eu, es, em, here, filling_ahead s.stored (marks + i) (omega arith)));
       }
 
   pub leaving_end : {work : List ℕ} {i : ℕ} → Leaving cap text before work b n marks i → n.segs ≤ i → UnitsKept cap text before work b n marks

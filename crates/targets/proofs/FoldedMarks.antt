@@ -14,7 +14,7 @@ use Rattle.gfa_spec.specs.Reading.{Segment}
 use Rattle.gfa_spec.specs.Runs.{Run, runs, is_repeat, bit}
 use Rattle.gfa_spec.proofs.Tests.{same_sym, any_append}
 use Rattle.gfa_spec.proofs.Counting.{bit_set, count_one, count_append}
-use Rattle.scan.specs.Places.{part_at}
+use Rattle.scan.specs.Places.{part_at, bytes_in}
 use Rattle.normalize_spec.specs.Folding.{repeats_on}
 use Rattle.work.specs.Rows.{span, Only, Cleared}
 use Rattle.work.proofs.Rows.{only_then}
@@ -22,14 +22,14 @@ use Rattle.tables.specs.declared.tables.Bases.{Bases}
 use Rattle.tables.specs.declared.tables.Counts.{Counts}
 use Rattle.tables.specs.declared.rows.PathWords.{PathWords}
 use Rattle.tables.specs.declared.rows.StepWords.{StepWords}
-use Rattle.tables.specs.ByNumber.{segment_no, segments_to, paths_to, step_no, steps_from, bytes_in, PathIs, StepIs}
+use Rattle.tables.specs.ByNumber.{segment_no, segments_to, paths_to, step_no, steps_from, PathIs, StepIs}
 use Rattle.runs.specs.Runs.{RunFrom}
 use Rattle.tables.proofs.ByNumber.{paths_more, steps_none, segment_stands, path_stands, step_stands, steps_stand, paths_zero, segments_zero, segments_more}
 use Rattle.normalize_tables.specs.declared.layout.Layout.{Layout}
 use Rattle.normalize_tables.specs.Layout.{Source}
 use Rattle.normalize_tables.specs.Marks.{Marked}
 use Rattle.targets.specs.Marking.{Markable, Adds, NameMarked, is_run_on, NextMarked, PathMarked, both_at, sum_to, BothKept, MarkFoldedIs}
-use Rattle.work.proofs.Filling.{Filling, filling_start, filling_ahead, filling_behind, filling_more, filling_end}
+use Rattle.work.proofs.Filling.{Filling, filling_start, filling_ahead, filling_behind, filling_more}
 use Rattle.targets.proofs.Adding.{folded_marks, tables_kept, tables_same, marked_by, cleared_marks, adds_none, adds_alike, adds_then}
 
 -- ---- a run
@@ -107,9 +107,6 @@ module _ {text before : List ℕ} {b : Bases} {n : Counts} {marks : ℕ} where
           adds = adds_alike (adds_then s.adds q.adds) (λ t. rw (paths_more, any_append, here) (unfold any repeats_on in rw or-false));
         }
 
-    pub visiting_end : n.paths ≤ p → Adds (λ t. any (repeats_on t.id) (paths_to text before b n.paths)) text before work b n marks
-    visiting_end h = let e : p ≡ n.paths = omega (arith, s.high) in rw e at s.adds
-
 -- ---- marks that are set twice
 
 -- The state at segment i: the marks before it are kept where they are set twice, and counted.
@@ -137,12 +134,6 @@ module _ {before : List ℕ} {g : Layout} {count : ℕ} where
           sum = rw (add-one, s.sum, here) (unfold sum_to in refl);
           few = omega (arith, s.few, ex.1);
         }
-
-    pub keeping_end : count ≤ i → BothKept before work g count total
-    keeping_end h =
-        let z = filling_end s.stored h in
-        let e : i ≡ count = omega (arith, s.stored.high) in
-        record { marks = z.0; total = rw e at s.sum; long = s.stored.long; only = z.1 }
 
 -- marks are counted
 sum_count : (text w : List ℕ) (b : Bases) (f : ℕ → ℕ) (t : Segment → Bool) (n : ℕ) → ((i : ℕ) → i < n → f i ≡ bit (t (segment_no text w b i))) → sum_to f n ≡ count_of t (segments_to text w b n)

@@ -6,23 +6,23 @@ use mathlib.Core.List.{List}
 use mathlib.Core.Path.{◌≡◌, refl, sym, ◌∙◌}
 use lib.Dec.{eqb}
 use lib.ListN.{get_or}
-use borrow.Author.Tests.{le-leb, lt-leb}
+use borrow.Author.Tests.{le-leb}
 use Rattle.gfa_spec.specs.Bytes.{same, any}
 use Rattle.gfa_spec.specs.Reading.{Segment, Path}
 use Rattle.gfa_spec.specs.Runs.{Run, runs, is_repeat}
 use Rattle.gfa_spec.proofs.Tests.{same_sym}
 use Rattle.gfa_spec.proofs.Counting.{bit_set}
-use Rattle.scan.specs.Places.{part_at}
+use Rattle.scan.specs.Places.{part_at, bytes_in}
 use Rattle.normalize_spec.specs.Folding.{repeats_on}
 use Rattle.tables.specs.declared.tables.Bases.{Bases}
 use Rattle.tables.specs.declared.tables.Counts.{Counts}
-use Rattle.tables.specs.declared.segments.Found.{Found}
-use Rattle.tables.specs.declared.segments.Found.TheVariants.{At, Nothing}
+use Rattle.std.specs.Prelude.{Option, None, Some}
+use Rattle.tables.specs.declared.entry.SegmentNo.{SegmentNo}
 use Rattle.tables.specs.declared.rows.PathWords.{PathWords}
 use Rattle.tables.specs.declared.rows.StepWords.{StepWords}
-use Rattle.tables.specs.ByNumber.{segments_of, paths_to, paths_from, steps_from, bytes_in, PathIs, StepIs, NamedIs}
+use Rattle.tables.specs.ByNumber.{segments_of, paths_to, paths_from, steps_from, PathIs, StepIs, NamedIs}
 use Rattle.runs.specs.Runs.{RunFrom}
-use Rattle.tables.proofs.ByNumber.{paths_all, paths_next, paths_none, steps_none}
+use Rattle.tables.proofs.ByNumber.{paths_next, paths_none, steps_none}
 use Rattle.normalize_tables.specs.declared.layout.Layout.{Layout}
 use Rattle.normalize_tables.specs.Marks.{Marked}
 use Rattle.normalize_tables.proofs.Lists.{any_alike, any_shared, any_swap}
@@ -32,33 +32,29 @@ use Rattle.targets.specs.Marking.{Markable, is_run_on, OnMarked, AnyIs}
 
 -- ---- runs on marked segments
 
-module _ {text w : List ℕ} {b : Bases} {n : Counts} {marks i times : ℕ} where
-  pub marked_short : times < 2 → OnMarked text w b n marks i times false
-  marked_short h = record { answer = λ p m. rw (lt-leb 2 times h) }
+module _ {text w : List ℕ} {b : Bases} {n : Counts} {marks i times : ℕ} {s : StepWords} {r : Option SegmentNo} (m : Markable text w b n marks) (long : 2 ≤ times)
+    (q : StepIs text w b i s) (f : NamedIs text w b n s.name r) where
+  pub marked_unknown : r ≡ None → OnMarked text w b n marks i times false
+  unfolding part_at
+  marked_unknown e =
+      record {
+        answer = λ p z. rw (le-leb 2 times long, q.step, passes_none text w b n m.apart (bytes_in text s.name) p (unnamed_number f e));
+      }
 
-  module _ {s : StepWords} {r : Found} (m : Markable text w b n marks) (long : 2 ≤ times) (q : StepIs text w b i s)
-      (f : NamedIs text w b n s.name r) where
-    pub marked_unknown : r ≡ Nothing → OnMarked text w b n marks i times false
-    unfolding part_at
-    marked_unknown e =
-        record {
-          answer = λ p z. rw (le-leb 2 times long, q.step, passes_none text w b n m.apart (bytes_in text s.name) p (unnamed_number f e));
-        }
-
-    pub marked_known : {k mark : ℕ} → r ≡ At (record { 0 = k }) → mark ≡ get_or w (marks + k) 0 → OnMarked text w b n marks i times (eqb mark 1)
-    unfolding part_at
-    marked_known {k} {mark} e em =
-        let l = named_below f e in
-        record {
-          answer = λ p z. rw (
-            le-leb 2 times long,
-            q.step,
-            passes_named text w b n m.apart (bytes_in text s.name) p k (named_number f e) l,
-            em,
-            z.mark k l,
-            bit_set,
-          );
-        }
+  pub marked_known : {k mark : ℕ} → r ≡ Some (record { 0 = k }) → mark ≡ get_or w (marks + k) 0 → OnMarked text w b n marks i times (eqb mark 1)
+  unfolding part_at
+  marked_known {k} {mark} e em =
+      let l = named_below f e in
+      record {
+        answer = λ p z. rw (
+          le-leb 2 times long,
+          q.step,
+          passes_named text w b n m.apart (bytes_in text s.name) p k (named_number f e) l,
+          em,
+          z.mark k l,
+          bit_set,
+        );
+      }
 
 -- a run of two or more on a segment that passes
 abbrev pub is_hit : (Segment → Bool) → List Segment → Run → Bool
@@ -89,16 +85,14 @@ hits p ss ps = any_swap p (λ s q. repeats_on s.id q) ss ps ∙ any_alike path p
 -- ---- the search
 
 -- The state at path p: no path before it has such a run.
-pub record Looking (text work : List ℕ) (b : Bases) (n : Counts) (marks p : ℕ) (found : Bool) : Type 0 where
-  pub none : found ≡ false
+pub record Looking (text work : List ℕ) (b : Bases) (n : Counts) (marks p : ℕ) : Type 0 where
   pub markable : Markable text work b n marks
   pub high : p ≤ n.paths
   pub left : (t : Segment → Bool) → Marked t text work b n marks
       → any (has_hit t (segments_of text work b n)) (paths_to text work b n.paths) ≡ any (has_hit t (segments_of text work b n)) (paths_from text work b n p)
 
 -- The state at step i of path p, whose steps end before step `end`: nor has that path one before the step.
-pub record Walking (text work : List ℕ) (b : Bases) (n : Counts) (marks p end i : ℕ) (found : Bool) : Type 0 where
-  pub none : found ≡ false
+pub record Walking (text work : List ℕ) (b : Bases) (n : Counts) (marks p end i : ℕ) : Type 0 where
   pub markable : Markable text work b n marks
   pub here : p < n.paths
   pub high : i ≤ end
@@ -108,14 +102,10 @@ pub record Walking (text work : List ℕ) (b : Bases) (n : Counts) (marks p end 
       ≡ (any (is_hit t (segments_of text work b n)) (runs (steps_from text work b i end)) || any (has_hit t (segments_of text work b n)) (paths_from text work b n (p + 1)))
 
 module _ {text work : List ℕ} {b : Bases} {n : Counts} {marks : ℕ} where
-  pub looking_start : Markable text work b n marks → Looking text work b n marks 0 false
-  looking_start m = record { none = refl; markable = m; high = omega arith; left = λ t q. rw (← paths_all text work b n) }
-
-  module _ {p : ℕ} {found : Bool} (s : Looking text work b n marks p found) where
-    pub walking_start : {r : PathWords} → p < n.paths → PathIs text work b n p r → Walking text work b n marks p r.end r.first found
+  module _ {p : ℕ} (s : Looking text work b n marks p) where
+    pub walking_start : {r : PathWords} → p < n.paths → PathIs text work b n p r → Walking text work b n marks p r.end r.first
     walking_start h q =
         record {
-          none = s.none;
           markable = s.markable;
           here = h;
           high = q.low;
@@ -128,10 +118,10 @@ module _ {text work : List ℕ} {b : Bases} {n : Counts} {marks : ℕ} where
     unfolding any
     looking_end h t q = sym (s.left t q ∙ rw (paths_none text work b n p h))
 
-  module _ {p end i : ℕ} {found : Bool} (s : Walking text work b n marks p end i found) where
-    pub walking_end : end ≤ i → Looking text work b n marks (p + 1) found
+  module _ {p end i : ℕ} (s : Walking text work b n marks p end i) where
+    pub walking_end : end ≤ i → Looking text work b n marks (p + 1)
     unfolding any runs
-    walking_end h = let e = s.here in record { none = s.none; markable = s.markable; high = omega arith; left = λ t q. s.left t q ∙ rw (steps_none text work b i end h) }
+    walking_end h = let e = s.here in record { markable = s.markable; high = omega arith; left = λ t q. s.left t q ∙ rw (steps_none text work b i end h) }
 
     module _ {r : ℕ} {hit : Bool} (q : RunFrom text work b i end r) (o : OnMarked text work b n marks i (r - i) hit) where
       -- the run from step i, and the others
@@ -141,8 +131,8 @@ module _ {text work : List ℕ} {b : Bases} {n : Counts} {marks : ℕ} where
       unfolding any is_repeat
       first_run t m = s.left t m ∙ rw (q.first, ← o.answer t m)
 
-      pub walking_more : hit ≡ false → Walking text work b n marks p end r found
-      walking_more h = record { none = s.none; markable = s.markable; here = s.here; high = q.high; inside = s.inside; left = λ t m. first_run t m ∙ rw h }
+      pub walking_more : hit ≡ false → Walking text work b n marks p end r
+      walking_more h = record { markable = s.markable; here = s.here; high = q.high; inside = s.inside; left = λ t m. first_run t m ∙ rw h }
 
       pub walking_hit : hit ≡ true → (t : Segment → Bool) → Marked t text work b n marks
           → ◌≡◌ {A = Bool} true (any (has_hit t (segments_of text work b n)) (paths_to text work b n.paths))
@@ -154,9 +144,9 @@ any_is : {text work : List ℕ} {b : Bases} {n : Counts} {g : Layout} {r : Bool}
     → r ≡ any (has_hit t (segments_of text work b n)) (paths_to text work b n.paths)) → AnyIs text work b n g r
 any_is {text} {work} {b} {n} h = record { answer = λ t m. h t m ∙ sym (hits t (segments_of text work b n) (paths_to text work b n.paths)) }
 
-pub looked_none : {text work : List ℕ} {b : Bases} {n : Counts} {g : Layout} {p : ℕ} {r : Bool} → Looking text work b n g.eligible p r → n.paths ≤ p → AnyIs text work b n g r
-looked_none s h = any_is (λ t m. s.none ∙ looking_end s h t m)
+pub looked_none : {text work : List ℕ} {b : Bases} {n : Counts} {g : Layout} {p : ℕ} → Looking text work b n g.eligible p → n.paths ≤ p → AnyIs text work b n g false
+looked_none s h = any_is (looking_end s h)
 
-pub looked_hit : {text work : List ℕ} {b : Bases} {n : Counts} {g : Layout} {p end i r : ℕ} {found hit : Bool} → Walking text work b n g.eligible p end i found → RunFrom text work b i end r
+pub looked_hit : {text work : List ℕ} {b : Bases} {n : Counts} {g : Layout} {p end i r : ℕ} {hit : Bool} → Walking text work b n g.eligible p end i → RunFrom text work b i end r
     → OnMarked text work b n g.eligible i (r - i) hit → hit ≡ true → AnyIs text work b n g true
 looked_hit s q o h = any_is (walking_hit s q o h)

@@ -8,8 +8,9 @@ use Rattle.work.specs.Rows.{span, Only}
 use Rattle.tables.specs.declared.tables.Bases.{Bases}
 use Rattle.tables.specs.declared.tables.Counts.{Counts}
 use Rattle.tables.specs.Segments.{ids_of}
-use Rattle.tables.specs.declared.rows.Place.{Place}
-use Rattle.tables.specs.ByNumber.{link_no, step_no, segments_of, links_to, paths_to, steps_from, tables_end, bytes_in}
+use Rattle.scan.specs.declared.places.Place.{Place}
+use Rattle.scan.specs.Places.{bytes_in}
+use Rattle.tables.specs.ByNumber.{link_no, step_no, segments_of, links_to, paths_to, steps_from, tables_end}
 use Rattle.runs.specs.Runs.{RunFrom}
 use Rattle.tables.specs.Tables.{Readable}
 use Rattle.normalize_tables.specs.declared.layout.Layout.{Layout}

@@ -1,15 +1,16 @@
 // The eligible segments (document 01, "Folding", rule 1).
 ghost use Rattle.std.specs.Prelude.{◌≡◌, ◌<◌};
 ghost use Rattle.normalize_spec.specs.Folding.{self_linked, is_unit};
-ghost use Rattle.tables.specs.ByNumber.{links_to, bytes_in, Inside};
+ghost use Rattle.tables.specs.ByNumber.{links_to};
 ghost use Rattle.normalize_tables.specs.Layout.{Source};
 ghost use Rattle.targets.specs.Marking.{Markable, Adds, LinkMarked, UnitsKept, MarkedIs};
 
 use crate::marks::{mark_name, still_marked};
 use normalize_tables::layout::Layout;
-use scan::names::{is_star, same_name};
+use runs::counts::is_self_link;
+use scan::names::is_star;
 use tables::entry::{LinkNo, SegmentNo};
-use tables::rows::{Place, link_at, segment_at};
+use tables::graph::Graph;
 use tables::tables::{Bases, Counts};
 use work::work::{clear_words, word};
 
@@ -18,11 +19,11 @@ pub fn mark_link(text: &[u8], work: &mut [u32], b: Bases, n: Counts, marks: usiz
     requires { Markable text.now work.old b n marks × (i < n.links) }
     ensures { LinkMarked text.now work.old work.new b n marks i }
 {
-    let l = link_at(text, work, b, n, LinkNo(i as u32));
-    if !same_name(text, l.from.start, l.from.size, l.to.start, l.to.size) {
-        return;
+    let graph = Graph { text, work, b, n };
+    let l = graph.link(LinkNo(i as u32));
+    if is_self_link(text, l) {
+        mark_name(text, work, b, n, marks, l.from);
     }
-    mark_name(text, work, b, n, marks, l.from);
 }
 
 // Marks the segments with a self-link.
@@ -30,29 +31,20 @@ pub fn mark_self_links(text: &[u8], work: &mut [u32], b: Bases, n: Counts, marks
     requires { Markable text.now work.old b n marks }
     ensures { Adds (λ s. self_linked (links_to text.now work.old b n.links) s.id) text.now work.old work.new b n marks }
 {
-    let mut i = 0;
-    while i < n.links {
+    for i in 0..n.links {
         mark_link(text, work, b, n, marks, i);
-        i += 1;
     }
 }
 
 // May the sequence be folded? It is not `*`, not empty, and within the cap; cap 0 is no cap.
-pub fn is_unit(text: &[u8], unit: Place, cap: usize) -> bool
-    requires { Inside text.now unit }
-    ensures { result ≡ is_unit cap (bytes_in text.now unit) }
+#[tactic(auto, using(crate::proofs::EligibleMarks::units))]
+pub fn is_unit(unit: &[u8], cap: usize) -> bool
+    ensures { result ≡ is_unit cap unit.now }
 {
-    let size = unit.size;
-    if size == 0 {
+    if unit.is_empty() || is_star(unit) {
         return false;
     }
-    if is_star(text, unit.start, size) {
-        return false;
-    }
-    if cap == 0 {
-        return true;
-    }
-    size <= cap
+    cap == 0 || unit.len() <= cap
 }
 
 // Clears the marks of the segments that may not be folded.
@@ -60,13 +52,12 @@ pub fn keep_units(text: &[u8], work: &mut [u32], b: Bases, n: Counts, marks: usi
     requires { Markable text.now work.old b n marks }
     ensures { UnitsKept cap text.now work.old work.new b n marks }
 {
-    let mut i = 0;
-    while i < n.segs {
-        let s = segment_at(text, work, b, n, SegmentNo(i as u32));
+    for i in 0..n.segs {
+        let graph = Graph { text, work, b, n };
+        let s = graph.segment(SegmentNo(i as u32));
         let mark = word(work, marks + i);
-        let now = still_marked(mark, is_unit(text, s.sequence, cap));
+        let now = still_marked(mark, is_unit(s.sequence.of(text), cap));
         work[marks + i] = now as u32;
-        i += 1;
     }
 }
 

@@ -10,56 +10,43 @@ use crate::marks::{mark_name, still_marked};
 use normalize_tables::layout::Layout;
 use runs::runs::run_from;
 use tables::entry::PathNo;
-use tables::rows::{path_at, segment_named, step_at};
-use tables::segments::Found;
+use tables::graph::Graph;
 use tables::tables::{Bases, Counts};
 use work::work::{clear_words, word};
 
 // Is the run of `times` steps from step `i` on one of two or more, on a marked segment?
-pub fn on_marked(
-    text: &[u8],
-    work: &[u32],
-    b: Bases,
-    n: Counts,
-    marks: usize,
-    i: usize,
-    times: usize,
-) -> bool
-    requires { Markable text.now work.now b n marks × (i < n.steps) }
-    ensures { OnMarked text.now work.now b n marks i times result }
+#[tactic(auto, using(crate::proofs::Looking::marked_unknown, crate::proofs::Looking::marked_known))]
+pub fn on_marked(graph: &Graph, marks: usize, i: usize, times: usize) -> bool
+    requires { Markable graph.now.text.now graph.now.work.now graph.now.b graph.now.n marks × (i < graph.now.n.steps) }
+    ensures { OnMarked graph.now.text.now graph.now.work.now graph.now.b graph.now.n marks i times result }
 {
     if times < 2 {
         return false;
     }
-    let step = step_at(text, work, b, n, i);
-    let Found::At(found) = segment_named(text, work, b, n, step.name) else {
-        return false;
-    };
-    word(work, marks + found.0 as usize) == 1
+    match graph.named(graph.step(i).name) {
+        Some(found) => word(graph.work, marks + found.0 as usize) == 1,
+        None => false,
+    }
 }
 
 // Is some segment folded? The search ends at the first run of two or more on an eligible segment.
-pub fn any_folded(text: &[u8], work: &[u32], b: Bases, n: Counts, g: Layout) -> bool
-    requires { Source text.now work.now b n g }
-    ensures { AnyIs text.now work.now b n g result }
+pub fn any_folded(graph: &Graph, g: Layout) -> bool
+    requires { Source graph.now.text.now graph.now.work.now graph.now.b graph.now.n g }
+    ensures { AnyIs graph.now.text.now graph.now.work.now graph.now.b graph.now.n g result }
 {
-    let marks = g.eligible;
-    let mut found = false;
-    let mut p = 0;
-    'paths: while p < n.paths {
-        let path = path_at(text, work, b, n, PathNo(p as u32));
+    for p in 0..graph.n.paths {
+        let path = graph.path(PathNo(p as u32));
         let mut i = path.first;
+        // From run to run.
         while i < path.end {
-            let end = run_from(text, work, b, n, i, path.end);
-            if on_marked(text, work, b, n, marks, i, end - i) {
-                found = true;
-                break 'paths;
+            let end = run_from(graph, i, path.end);
+            if on_marked(graph, g.eligible, i, end - i) {
+                return true;
             }
             i = end;
         }
-        p += 1;
     }
-    found
+    false
 }
 
 // Marks the segment of the run from step `i` on, of the steps before step `end`, where that is one of two or more; answers where it ends.
@@ -75,11 +62,12 @@ pub fn mark_next(
     requires { Markable text.now work.old b n marks × (i < end) × (end ≤ n.steps) }
     ensures { NextMarked text.now work.old work.new b n marks i end result }
 {
-    let next = run_from(text, work, b, n, i, end);
+    let graph = Graph { text, work, b, n };
+    let next = run_from(&graph, i, end);
     if next - i < 2 {
         return next;
     }
-    let step = step_at(text, work, b, n, i);
+    let step = graph.step(i);
     mark_name(text, work, b, n, marks, step.name);
     next
 }
@@ -98,6 +86,7 @@ pub fn mark_path(
     ensures { PathMarked text.now work.old work.new b n marks first end }
 {
     let mut i = first;
+    // From run to run.
     while i < end {
         i = mark_next(text, work, b, n, marks, i, end);
     }
@@ -108,11 +97,10 @@ pub fn mark_paths(text: &[u8], work: &mut [u32], b: Bases, n: Counts, marks: usi
     requires { Markable text.now work.old b n marks }
     ensures { Adds (λ s. any (repeats_on s.id) (paths_to text.now work.old b n.paths)) text.now work.old work.new b n marks }
 {
-    let mut p = 0;
-    while p < n.paths {
-        let path = path_at(text, work, b, n, PathNo(p as u32));
+    for p in 0..n.paths {
+        let graph = Graph { text, work, b, n };
+        let path = graph.path(PathNo(p as u32));
         mark_path(text, work, b, n, marks, path.first, path.end);
-        p += 1;
     }
 }
 
@@ -122,15 +110,13 @@ pub fn keep_eligible(work: &mut [u32], g: Layout, count: usize) -> usize
     ensures { BothKept work.old work.new g count result }
 {
     let mut total = 0;
-    let mut i = 0;
-    while i < count {
+    for i in 0..count {
         let eligible = word(work, g.eligible + i);
         let folded = word(work, g.folded + i);
         let mark = still_marked(eligible, folded == 1);
         let at = g.folded + i;
         work[at] = mark as u32;
         total += mark;
-        i += 1;
     }
     total
 }

@@ -1,6 +1,6 @@
 -- Tables in the work area: rows of words, and which words a function leaves as they were.
 use Rattle.std.specs.Prelude.{ℕ, zero, suc, ◌+◌, ◌*◌, ◌≤◌, ◌<◌, List, [], ◌∷◌, ◌++◌, ◌⊎◌, ◌≡◌, length, get_or}
-use Rattle.std.proofs.Math.Option.{Option, none, some}
+use Rattle.std.specs.Prelude.{Option, None, Some}
 
 -- ---- rows
 
@@ -20,8 +20,8 @@ Small (v ∷ vs) = (v < 4294967296) × Small vs
 
 -- the word for a number that may be missing: the number plus one, or 0 for none
 unfoldable pub word_of : Option ℕ → ℕ
-word_of none = 0
-word_of (some k) = suc k
+word_of None = 0
+word_of (Some k) = suc k
 
 -- ---- what is kept
 

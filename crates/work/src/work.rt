@@ -3,30 +3,19 @@ ghost use Rattle.std.specs.Prelude.{◌≡◌, ◌+◌, ◌≤◌, ◌<◌, leng
 ghost use Rattle.std.proofs.lemmas.List.Edits.{sets};
 ghost use Rattle.work.specs.Rows.{Small, Cleared};
 
-// A word as an index.
-fn wide(x: u32) -> usize
-    ensures { result ≡ x }
-{
-    x as usize
-}
-
 // A word of the work area.
 pub fn word(work: &[u32], i: usize) -> usize
     requires { i < length work.now }
     ensures { result ≡ get_or work.now i 0 }
 {
-    wide(work[i])
+    work[i] as usize
 }
 
 // Makes every word of the work area 0.
 pub fn clear(work: &mut [u32])
     ensures { work.new ≡ replicate (length work.old) 0 }
 {
-    let mut i = 0;
-    while i < work.len() {
-        work[i] = 0;
-        i += 1;
-    }
+    work.fill(0);
 }
 
 // Makes the `count` words from the word `at` on 0.
@@ -34,11 +23,7 @@ pub fn clear_words(work: &mut [u32], at: usize, count: usize)
     requires { at + count ≤ length work.old }
     ensures { Cleared work.old work.new at count }
 {
-    let mut i = 0;
-    while i < count {
-        work[at + i] = 0;
-        i += 1;
-    }
+    work[at..at + count].fill(0);
 }
 
 // Stores a row from the word `at` on.
@@ -46,10 +31,7 @@ pub fn put_row(work: &mut [u32], at: usize, row: &[usize])
     requires { (at + length row.now ≤ length work.old) × Small row.now }
     ensures { work.new ≡ sets work.old at row.now }
 {
-    let mut i = 0;
-    while i < row.len() {
-        let v = row[i];
-        work[at + i] = v as u32;
-        i += 1;
+    for (i, v) in row.iter().enumerate() {
+        work[at + i] = *v as u32;
     }
 }

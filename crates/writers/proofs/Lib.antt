@@ -3,3 +3,4 @@ pub mod Writing
 pub mod Joining
 pub mod Digits
 pub mod Rowing
+pub mod NumberLines

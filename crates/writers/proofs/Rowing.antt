@@ -1,35 +1,26 @@
--- The pieces of the rows of a table: the loop that writes them, its state, and how it goes on; and what they are where each row is a line or lines. Assumes nothing.
-use Prim.Native.Nat.{ℕ, zero, suc, ◌+◌, ◌≤◌, ◌<◌}
+-- The pieces of the rows of a table: the loop that puts them, one behind the other; and what they are where each row is a line or lines. Assumes nothing.
+use Prim.Native.Nat.{ℕ, zero, suc, ◌+◌, ◌<◌}
 use native.Mathlib.Numerals.{add-one}
 use native.Mathlib.Omega.{arith}
 use mathlib.Core.List.{List, [], ◌∷◌, ◌++◌, map, map-append}
-use mathlib.Core.Path.{◌≡◌, refl, ◌∙◌}
+use mathlib.Core.Path.{◌≡◌, refl}
 use lib.ListN.{length, length-append}
 use Rattle.gfa_spec.specs.Bytes.{join, end_line, ended}
-use Rattle.writers.specs.Writers.{Wrote, pieces_to}
-use Rattle.writers.proofs.Writing.{nothing, ◌▷◌, keeps}
+use Rattle.writers.specs.declared.writer.Writer.{Writer}
+use Rattle.writers.specs.Writers.{Puts, pieces_to}
+use Rattle.writers.proofs.Writing.{◌▷◌, puts_nothing}
 use Rattle.writers.proofs.Joining.{join_last, ended_append, ended_last}
 
--- The state at row i of n: the pieces of the rows before it are written.
-pub record Rowing (piece : ℕ → List ℕ) (limit : ℕ) (out : List ℕ) (at n : ℕ) (now : List ℕ) (next i : ℕ) : Type 0 where
-  pub high : i ≤ n
-  pub within : next ≤ limit
-  pub wrote : Wrote limit out at (pieces_to piece i) now next
-  pub long : length now ≡ length out
-
-module _ {piece : ℕ → List ℕ} {limit at n : ℕ} {out : List ℕ} where
-  pub rowing_start : at ≤ limit → Rowing piece limit out at n out at 0
+module _ (piece : ℕ → List ℕ) where
+  -- before the first row
+  pub pieces_none : {w : Writer} → Puts w (pieces_to piece 0) w
   unfolding pieces_to
-  rowing_start h = record { high = omega arith; within = h; wrote = nothing (omega arith); long = refl }
+  pieces_none = puts_nothing
 
-  module _ {now : List ℕ} {next i : ℕ} (s : Rowing piece limit out at n now next i) where
-    -- a turn writes the piece of row i
-    pub rowing_more : {after : List ℕ} {last : ℕ} → i < n → Wrote limit now next (piece i) after last → Rowing piece limit out at n after last (i + 1)
-    unfolding pieces_to
-    rowing_more h w = record { high = omega arith; within = omega (arith, w.place); wrote = rw add-one (s.wrote ▷ w); long = keeps w ∙ s.long }
-
-    pub rowing_end : n ≤ i → Wrote limit out at (pieces_to piece n) now next
-    rowing_end h = let e : i ≡ n = omega (arith, s.high) in rw e at s.wrote
+  -- a turn puts the piece of row i
+  pub pieces_next : {before now after : Writer} {i : ℕ} → Puts before (pieces_to piece i) now → Puts now (piece i) after → Puts before (pieces_to piece (i + 1)) after
+  unfolding pieces_to
+  pieces_next w v = rw add-one (w ▷ v)
 
 -- pieces that are the same row by row
 pub pieces_same : (piece other : ℕ → List ℕ) (n : ℕ) → ((i : ℕ) → i < n → piece i ≡ other i) → pieces_to piece n ≡ pieces_to other n

@@ -3,17 +3,20 @@ use Prim.Native.Nat.{ℕ, suc, ◌+◌, ◌-◌, ◌≤◌, ◌<◌, min}
 use native.Mathlib.Omega.{arith}
 use native.Mathlib.Numerals.{add-one}
 use mathlib.Core.Path.{◌≡◌, refl, sym, ap, ◌∙◌}
-use mathlib.Core.List.{List, [], ◌∷◌, ◌++◌, append-nil, append_assoc}
-use lib.ListN.{length, get_or, set, take, drop, length-append, length-take, take-append-drop}
-use lib.Seq.{sets, set_out, get_or-set_other, length-sets, sets-eq, take-suc, take_all, length-take-le, take-take, take-append-le, take-append-add}
-use Rattle.writers.specs.Writers.{Wrote}
+use mathlib.Core.List.{List, [], ◌∷◌, ◌++◌, append-nil}
+use lib.ListN.{drop, get_or, length, length-append, length-take, set, take, take-append-drop}
+use lib.Seq.{get_or-set_other, length-sets, length-take-le, paste, set_out, sets, sets-eq, take-append-add, take-append-le, take-suc, take-take, take_all}
+use borrow.Rule.Slice.PartMut.{put_mid}
+use Rattle.std.proofs.lemmas.Slice.{put_mid-paste}
+use Rattle.writers.specs.declared.writer.Writer.{Writer}
+use Rattle.writers.specs.Writers.{Wrote, Puts, Skips}
 use Rattle.gfa_spec.proofs.Parts.{by_order}
 
-infixl 30 ◌▷◌
+infixl 30 ◌▷◌ ◌▶◌
 -- ---- storing a list
 
 -- past the end nothing is stored
-sets_out : (l : List ℕ) (i : ℕ) (vs : List ℕ) → length l ≤ i → sets l i vs ≡ l
+pub sets_out : (l : List ℕ) (i : ℕ) (vs : List ℕ) → length l ≤ i → sets l i vs ≡ l
 sets_out l i [] h = refl
 sets_out l i (a ∷ vs) h = rw (set_out l i a h) (sets_out l (suc i) vs (omega arith))
 
@@ -54,6 +57,15 @@ take_both n p q = by_order n (length p) short long
     long h =
         let more : n ≡ length p + (n - length p) = omega arith in
         rw (take_all n p (omega arith)) (ap (λ (k : ℕ). take k (p ++ q)) more ∙ take-append-add p q (n - length p))
+
+-- as many bytes as there is room for, copied to their place
+pub copied : (out s : List ℕ) (at : ℕ) {ys : List ℕ} {n k : ℕ} → at < length out → n ≡ min (length s) (length out - at) → k ≡ n → ys ≡ take n s → put_mid at k out ys ≡ sets out at s
+copied out s at {ys} {n} {k} h e q p =
+    let long : length (take n s) ≡ n = length-take-le n s (omega arith) in
+    put_mid-paste at k out ys (take n s) n p (sym q) (sym long) ∙ whole long ∙ sets_room out s at n e
+  where
+    whole : length (take n s) ≡ n → paste out at (take n s) n ≡ sets out at (take n s)
+    whole long = sym (sets-eq (take n s) out at (omega (arith, long)) ∙ rw long (rw (take_all n (take n s) (omega (arith, long)))))
 
 -- ---- a loop that stores a piece byte by byte
 
@@ -102,8 +114,8 @@ pub nothing : {limit at next : ℕ} {out : List ℕ} → next ≡ min (at + 0) l
 nothing {limit} {at} {next} {out} p = record { bytes = ap (sets out at) (sym (take_all (limit - at) [] (omega arith))); place = p }
 
 -- one piece and then another
-pub ◌▷◌ : {limit at next last : ℕ} {out mid end p q : List ℕ} → Wrote limit out at p mid next → Wrote limit mid next q end last → Wrote limit out at (p ++ q) end last
-◌▷◌ {limit} {at} {next} {last} {out} {mid} {end} {p} {q} w v =
+pub ◌▶◌ : {limit at next last : ℕ} {out mid end p q : List ℕ} → Wrote limit out at p mid next → Wrote limit mid next q end last → Wrote limit out at (p ++ q) end last
+◌▶◌ {limit} {at} {next} {last} {out} {mid} {end} {p} {q} w v =
     record { bytes = by_order (at + length p) limit within past; place = omega (arith, length-append p q) }
   where
     first : List ℕ
@@ -131,6 +143,34 @@ pub ◌▷◌ : {limit at next last : ℕ} {out mid end p q : List ℕ} → Wrot
 pub keeps : {limit at next : ℕ} {out end p : List ℕ} → Wrote limit out at p end next → length end ≡ length out
 keeps {limit} {at} {next} {out} {end} {p} w = ap length w.bytes ∙ length-sets out at (take (limit - at) p)
 
+-- ---- pieces put by a writer
+
+module _ {a b : Writer} where
+  -- the piece under another name
+  pub as_piece : {p q : List ℕ} → p ≡ q → Puts a p b → Puts a q b
+  as_piece e w = rw (← e) w
+
+  -- one piece and then another
+  pub ◌▷◌ : {c : Writer} {p q : List ℕ} → Puts a p b → Puts b q c → Puts a (p ++ q) c
+  ◌▷◌ {c} {p} {q} w v = record { same = v.same ∙ w.same; limit = v.limit ∙ w.limit; wrote = w.wrote ▶ (rw w.limit at v.wrote) }
+
+-- a piece that a loop stored as far as it fits, and then the place behind it
+pub puts_skipped : {a b c : Writer} {piece : List ℕ} {i n : ℕ} → b.out.ghost_name ≡ a.out.ghost_name → b.limit ≡ a.limit → b.at ≡ a.at
+    → b.out.now ≡ sets a.out.now a.at (take i piece) → i ≡ min (length piece) (min (length a.out.now) a.limit - a.at) → n ≡ length piece → Skips b n c → Puts a piece c
+puts_skipped {a} {b} {c} {piece} {i} {n} same limit at bytes fits long s =
+    record {
+      same = s.same ∙ same;
+      limit = s.limit ∙ limit;
+      wrote = turned a.out.now piece a.at i a.limit fits (s.bytes ∙ bytes) (s.place ∙ place);
+    }
+  where
+    place : min (b.at + n) b.limit ≡ min (a.at + length piece) a.limit
+    place = rw (at, limit, long) refl
+
+-- nothing
+pub puts_nothing : {a : Writer} → Puts a [] a
+puts_nothing {a} = record { same = refl; limit = refl; wrote = nothing (let h = a.below in omega arith) }
+
 -- ---- measuring and writing an answer
 
 -- With a limit one past the room, the place tells whether a piece fits the room. It does so on any buffer, and so on an empty one.
@@ -143,36 +183,8 @@ measured_long w h = omega (arith, w.place)
 pub measured : {room next : ℕ} {out after piece : List ℕ} → Wrote (room + 1) out 0 piece after next → next ≤ room → next ≡ length piece
 measured w h = omega (arith, w.place)
 
--- a buffer of which an empty part was lent to measure is as it was
-pub untouched : (lent out : List ℕ) → length lent ≡ 0 → lent ++ out ≡ out
-untouched [] out e = refl
-untouched (b ∷ lent) out e = absurd (omega arith)
-
 -- a piece that fits, written from the start, stands in front of what was there
 pub written : {limit next : ℕ} {out end p : List ℕ} → length p ≤ length out → length p ≤ limit → Wrote limit out 0 p end next → end ≡ p ++ drop (length p) out
 written {limit} {next} {out} {end} {p} h k w =
     let place : 0 + length p ≡ length p = omega arith in
     stored (omega arith) w ∙ sets-eq p out 0 (omega arith) ∙ ap (λ (n : ℕ). p ++ drop n out) place
-
--- ---- a loop of pieces
-
--- The state of a loop that writes a whole piece by piece: what is written, and what is left of the whole.
-pub record Writing (limit : ℕ) (out : List ℕ) (at : ℕ) (now : List ℕ) (next : ℕ) (whole rest : List ℕ) : Type 0 where
-  pub piece : List ℕ
-  pub wrote : Wrote limit out at piece now next
-  pub split : whole ≡ piece ++ rest
-
-module _ {limit at next : ℕ} {out whole rest : List ℕ} where
-  -- before the first turn
-  pub writing_start : next ≡ min (at + 0) limit → whole ≡ rest → Writing limit out at out next whole rest
-  writing_start p e = record { piece = []; wrote = nothing p; split = e }
-
-  -- a turn writes the front of the rest
-  pub writing_more : {last : ℕ} {now after p more : List ℕ} → Writing limit out at now next whole rest → rest ≡ p ++ more
-      → Wrote limit now next p after last → Writing limit out at after last whole more
-  writing_more {last} {now} {after} {p} {more} w e v =
-      record { piece = w.piece ++ p; wrote = w.wrote ▷ v; split = w.split ∙ rw (e, append_assoc) }
-
-  -- after the last turn
-  pub writing_end : {now : List ℕ} → rest ≡ [] → Writing limit out at now next whole rest → Wrote limit out at whole now next
-  writing_end e w = being (sym (w.split ∙ rw (e, append-nil))) w.wrote

@@ -1,2 +1,3 @@
 -- What the contracts of the writers say.
 pub mod Writers
+pub mod Pieces

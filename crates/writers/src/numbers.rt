@@ -1,25 +1,26 @@
 // Decimal numbers, written.
 ghost use Rattle.std.specs.Prelude.{◌≡◌, ◌+◌, ◌<◌};
 ghost use Rattle.gfa_spec.specs.Decimal.{decimal};
-ghost use Rattle.writers.specs.Writers.{Wrote};
+ghost use Rattle.writers.specs.Writers.{Puts};
 
-use crate::bytes::put_byte;
+use crate::writer::Writer;
 
 // The byte of a digit.
 fn digit(n: u64) -> u8
     requires { n < 10 }
     ensures { result ≡ 48 + n }
 {
-    48 + n as u8
+    b'0' + n as u8
 }
 
 // A number in decimal: the digits before the last, and the last.
-pub fn put_decimal(out: &mut [u8], at: usize, limit: usize, n: u64) -> usize
-    ensures { Wrote limit out.old at (decimal n) out.new result }
+pub fn put_decimal(w: &mut Writer, n: u64)
+    ensures { Puts w.old (decimal n) w.new }
 {
     if n < 10 {
-        return put_byte(out, at, limit, digit(n));
+        w.put_byte(digit(n));
+    } else {
+        put_decimal(w, n / 10);
+        w.put_byte(digit(n % 10));
     }
-    let next = put_decimal(out, at, limit, n / 10);
-    put_byte(out, next, limit, digit(n % 10))
 }

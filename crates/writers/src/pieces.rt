@@ -1,52 +1,45 @@
 // Pieces of lines that both the rewritten text and the report are made of.
-ghost use Rattle.std.specs.Prelude.{◌∷◌, ◌++◌, ◌+◌, ◌≤◌, length};
-ghost use Rattle.gfa_spec.specs.Bytes.{part, end_line};
+ghost use Rattle.std.specs.Prelude.{◌∷◌, ◌++◌, map};
+ghost use Rattle.gfa_spec.specs.Bytes.{end_line, ended};
 ghost use Rattle.gfa_spec.specs.Decimal.{decimal};
-ghost use Rattle.writers.specs.Writers.{Wrote};
+ghost use Rattle.writers.specs.Pieces.{lent_line};
+ghost use Rattle.writers.specs.Writers.{Puts};
 
-use crate::bytes::{put_byte, put_bytes, put_constant};
 use crate::numbers::put_decimal;
+use crate::writer::Writer;
 
-// A part of the text as a line, ended by a line feed.
-pub fn put_line(
-    out: &mut [u8],
-    at: usize,
-    limit: usize,
-    text: &[u8],
-    from: usize,
-    n: usize,
-) -> usize
-    requires { from + n ≤ length text.now }
-    ensures { Wrote limit out.old at (end_line (part from n text.now)) out.new result }
+// A string as a line, ended by a line feed.
+pub fn put_line(w: &mut Writer, s: &[u8])
+    ensures { Puts w.old (end_line s.now) w.new }
 {
-    let next = put_bytes(out, at, limit, text, from, n);
-    put_byte(out, next, limit, b'\n')
+    w.put(s);
+    w.put_byte(b'\n');
 }
 
-// A line of a report: a name, `=`, and a part of the text.
-pub fn put_value_line(
-    out: &mut [u8],
-    at: usize,
-    limit: usize,
-    name: &[u8],
-    text: &[u8],
-    from: usize,
-    n: usize,
-) -> usize
-    requires { from + n ≤ length text.now }
-    ensures { Wrote limit out.old at (end_line (name.now ++ (61 ∷ part from n text.now))) out.new result }
+// A line of a report: a name, `=`, and a string.
+pub fn put_value_line(w: &mut Writer, name: &[u8], value: &[u8])
+    ensures { Puts w.old (end_line (name.now ++ (61 ∷ value.now))) w.new }
 {
-    let word = put_constant(out, at, limit, name);
-    let sign = put_byte(out, word, limit, b'=');
-    put_line(out, sign, limit, text, from, n)
+    w.put(name);
+    w.put_byte(b'=');
+    put_line(w, value);
 }
 
 // A line of a report: a name, `=`, and a number.
-pub fn put_number_line(out: &mut [u8], at: usize, limit: usize, name: &[u8], n: u64) -> usize
-    ensures { Wrote limit out.old at (end_line (name.now ++ (61 ∷ decimal n))) out.new result }
+pub fn put_number_line(w: &mut Writer, name: &[u8], n: u64)
+    ensures { Puts w.old (end_line (name.now ++ (61 ∷ decimal n))) w.new }
 {
-    let word = put_constant(out, at, limit, name);
-    let sign = put_byte(out, word, limit, b'=');
-    let number = put_decimal(out, sign, limit, n);
-    put_byte(out, number, limit, b'\n')
+    w.put(name);
+    w.put_byte(b'=');
+    put_decimal(w, n);
+    w.put_byte(b'\n');
+}
+
+// A line of a report for each name and its number.
+pub fn put_number_lines(w: &mut Writer, lines: &[(&[u8], u64)])
+    ensures { Puts w.old (ended (map lent_line lines.now)) w.new }
+{
+    for (name, n) in lines {
+        put_number_line(w, name, *n);
+    }
 }

@@ -1,10 +1,7 @@
 use borrow.Author.Rules.{rules}
 use Rattle.fold.proofs.Passing.{passing_ready, passing_more}
-use Rattle.fold.proofs.Transforming.{cleared_readable, passing_start, transform_is}
+use Rattle.fold.proofs.Transforming.{passing_start, transform_is}
 use Rattle.fold.proofs.paths.transform.Goals as goal
-
-pub first_number-first-requires : goal.first_number-first-requires
-first_number-first-requires c = search cleared_readable
 
 pub loop-p-init : goal.loop-p-init
 loop-p-init c = search passing_start

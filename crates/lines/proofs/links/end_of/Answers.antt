@@ -1,9 +1,13 @@
--- `lines::links::end_of` meets its contract, by the orientation. Assumes nothing.
+-- `lines::links::end_of` meets its contract. Assumes nothing.
+use Rattle.std.proofs.lemmas.Result.{err_from_is_err_and}
 use Rattle.lines.proofs.LineFields.{end_held, end_refused}
 use Rattle.lines.proofs.links.end_of.Goals as goal
 
-pub returns-in-Value : goal.returns-in-Value
-returns-in-Value c = search end_held
+pub returns-in_err-orientation : goal.returns-in_err-orientation
+returns-in_err-orientation c =
+    let p = err_from_is_err_and c.from_residual.result c.from_residual.ensures.1 in
+    rw (p.1, p.2) (end_refused c.column-place.ensures c.column-sign.ensures (rw c.of.ensures at c.parse_orientation.ensures) c.in_err-orientation.was)
 
-pub returns-in-Refused : goal.returns-in-Refused
-returns-in-Refused c = search end_refused
+pub returns : goal.returns
+returns c =
+    end_held c.column-place.ensures c.column-sign.ensures (rw c.of.ensures at c.parse_orientation.ensures) c.in_ok-orientation.was

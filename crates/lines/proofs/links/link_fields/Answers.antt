@@ -1,22 +1,21 @@
--- `lines::links::link_fields` meets its contract, by the number of fields and by both orientations. Assumes nothing.
-use borrow.Author.Rules.{rules}
-use Rattle.lines.proofs.LineFields.{has_column, link_short, link_first, link_second, link_held}
+-- `lines::links::link_fields` meets its contract. Assumes nothing.
+use Rattle.std.proofs.lemmas.Result.{err_from_is_err_and}
+use Rattle.lines.proofs.LineFields.{link_short, link_first, link_second, link_held}
 use Rattle.lines.proofs.links.link_fields.Goals as goal
 
 pub returns-in_default : goal.returns-in_default
-returns-in_default c = search link_short
+returns-in_default c = link_short c.field_at.ensures c.in_default.is
 
-pub end_of-first-requires : goal.end_of-first-requires
-end_of-first-requires c = search (has_column, rules)
+pub returns-in_err-from : goal.returns-in_err-from
+returns-in_err-from c =
+    let p = err_from_is_err_and c.from_residual.result c.from_residual.ensures.1 in
+    rw (p.1, p.2) (link_first c.field_at.ensures c.in-Some.is c.end_of.ensures c.in_err-from.was)
 
-pub end_of-second-requires : goal.end_of-second-requires
-end_of-second-requires c = search (has_column, rules)
+pub returns-in_err-to : goal.returns-in_err-to
+returns-in_err-to c =
+    let p = err_from_is_err_and c.from_residual-in_err-to.result c.from_residual-in_err-to.ensures.1 in
+    rw (p.1, p.2) (link_second c.field_at.ensures c.in-Some.is c.end_of.ensures c.in_ok-from.was c.end_of-2.ensures c.in_err-to.was)
 
-pub returns-in-Refused : goal.returns-in-Refused
-returns-in-Refused c = search link_first
-
-pub returns-in-Refused-second : goal.returns-in-Refused-second
-returns-in-Refused-second c = search link_second
-
-pub returns-in-At-second : goal.returns-in-At-second
-returns-in-At-second c = search link_held
+pub returns : goal.returns
+returns c =
+    link_held c.field_at.ensures c.in-Some.is c.end_of.ensures c.in_ok-from.was c.end_of-2.ensures c.in_ok-to.was c.requires

@@ -1,15 +1,15 @@
--- `lines::links::parse_orientation` meets its contract, by the field's length and its byte. Assumes nothing.
-use Rattle.steps.proofs.StepFields.{orientation_empty, orientation_long, orientation_is, orientation_not}
+-- `lines::links::parse_orientation` meets its contract. Assumes nothing.
+use Rattle.std.proofs.Common.{arith}
+use Rattle.std.proofs.lemmas.Grind.{common_steps}
+use Rattle.lines.proofs.LineFields.{sign_empty, sign_long, sign_one}
 use Rattle.lines.proofs.links.parse_orientation.Goals as goal
 
-pub returns-then-size-eq0 : goal.returns-then-size-eq0
-returns-then-size-eq0 c = search orientation_empty
+pub returns-then-is_empty : goal.returns-then-is_empty
+returns-then-is_empty c = sign_empty c.args.empty c.args.other c.requires c.args.s.now (grind (arith, common_steps))
 
-pub returns-then-size-gt1 : goal.returns-then-size-gt1
-returns-then-size-gt1 c = search orientation_long
-
-pub returns-then-is_orientation : goal.returns-then-is_orientation
-returns-then-is_orientation c = search orientation_is
+pub returns-then-s-gt1 : goal.returns-then-s-gt1
+returns-then-s-gt1 c = search sign_long
 
 pub returns : goal.returns
-returns c = search orientation_not
+returns c =
+    sign_one c.args.empty c.args.other c.requires c.args.s.now (grind (arith, common_steps)) c.if-s-gt1.false c.of.ensures c.ok_or.ensures.value

@@ -1,19 +1,12 @@
--- `lines::paths::add_path` meets its contract, by what became of the steps. Assumes nothing.
-use borrow.Author.Rules.{rules, Fits-under}
-use Rattle.lines.proofs.Adding.{path_few, path_end, p_refused, p_added}
+-- `lines::paths::add_path` meets its contract. Assumes nothing.
+use Rattle.std.proofs.lemmas.Result.{err_from_is_err_and}
+use Rattle.lines.proofs.Adding.{p_refused, p_added}
 use Rattle.lines.proofs.paths.add_path.Goals as goal
 
-pub overflow_add-row : goal.overflow_add-row
-overflow_add-row c = Fits-under _ _ 4294967296 (search path_end) tt
+pub returns-in_err-count : goal.returns-in_err-count
+returns-in_err-count c =
+    let p = err_from_is_err_and c.from_residual.result c.from_residual.ensures.1 in
+    rw (p.1, p.2) (p_refused c.path_steps.ensures c.requires.sort_is c.in_err-count.was)
 
-pub put_path-requires : goal.put_path-requires
-put_path-requires c = (search rules, search rules, (search rules, (search rules, (search path_end, tt))))
-
-pub one_more-requires : goal.one_more-requires
-one_more-requires c = (search rules, search rules, search rules, search rules, search path_few)
-
-pub returns-in-Refused : goal.returns-in-Refused
-returns-in-Refused c = search p_refused
-
-pub returns-in-Value : goal.returns-in-Value
-returns-in-Value c = search p_added
+pub returns : goal.returns
+returns c = p_added c.path_steps.ensures c.requires.sort_is c.in_ok-count.was c.requires.ready c.put_path.ensures c.one_more.ensures

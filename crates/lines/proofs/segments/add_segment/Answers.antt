@@ -1,19 +1,21 @@
--- `lines::segments::add_segment` meets its contract, by the line's fields and by the search for the ID. Assumes nothing.
-use borrow.Author.Rules.{rules}
-use Rattle.lines.proofs.Adding.{segment_small, segment_id, s_short, s_known, s_added}
+-- `lines::segments::add_segment` meets its contract. Assumes nothing.
+use Rattle.std.proofs.lemmas.Result.{err_from_is_err_and}
+use Rattle.std.proofs.Common.{sym, ◌∙◌}
+use Rattle.gfa_spec.proofs.Options.{none_is, some_is}
+use Rattle.lines.proofs.Adding.{s_short, s_known, s_added}
 use Rattle.lines.proofs.segments.add_segment.Goals as goal
 
-pub returns-in_default : goal.returns-in_default
-returns-in_default c = search s_short
+pub returns-in_err-row : goal.returns-in_err-row
+returns-in_err-row c =
+    let p = err_from_is_err_and c.from_residual.result c.from_residual.ensures.1 in
+    rw (p.1, p.2) (s_short c.requires.sort_is c.segment_fields.ensures c.in_err-row.was)
 
-pub find_segment-known-requires : goal.find_segment-known-requires
-find_segment-known-requires c = record { size_in_bounds = (search segment_id, search rules, search rules); each_row = search rules }
-
-pub returns-in_default-known : goal.returns-in_default-known
-returns-in_default-known c = search s_known
-
-pub put_segment-requires : goal.put_segment-requires
-put_segment-requires c = search (segment_small, rules)
+pub returns-then-is_some : goal.returns-then-is_some
+returns-then-is_some c =
+    let f = some_is c.find_segment.result (sym c.is_some.ensures ∙ c.if-is_some.true) in
+    s_known c.requires.sort_is c.segment_fields.ensures c.in_ok-row.was c.find_segment.ensures f.1
 
 pub returns : goal.returns
-returns c = search s_added
+returns c =
+    let f = none_is c.find_segment.result (sym c.is_some.ensures ∙ c.if-is_some.false) in
+    s_added c.requires.sort_is c.segment_fields.ensures c.in_ok-row.was c.find_segment.ensures f c.requires.ready c.put_segment.ensures c.one_more.ensures

@@ -1,4 +1,4 @@
--- `link_ends::ends::ends_of` meets its contract, by its three calls. Assumes nothing.
+-- `link_ends::ends::ends_of` meets its contract, by the searches for its nodes. Assumes nothing.
 use Rattle.link_ends.proofs.Endings.{ends_are}
 use Rattle.link_ends.proofs.ends.ends_of.Goals as goal
 

@@ -3,7 +3,4 @@ use Rattle.new_ids.proofs.Kin.{Backwards}
 use Rattle.new_ids.proofs.candidates.next_suffix.Given as goal
 
 abbrev pub invariant-loop-j : goal.invariant-loop-j
-invariant-loop-j l = Backwards l.text l.work l.a.b l.a.g l.a.m.first l.a.m.segs l.id l.count l.j
-
-abbrev pub decreases-loop-j : goal.decreases-loop-j
-decreases-loop-j l = l.j
+invariant-loop-j l = Backwards l.text l.work l.a.b l.a.g l.a.m.first l.a.m.segs l.unit l.count l.j

@@ -3,8 +3,8 @@ use Prim.Native.Nat.{◌+◌, ◌-◌}
 use Rattle.new_ids.specs.Ids.{Tried}
 use Rattle.new_ids.proofs.ids.free_suffix.Given as goal
 
-abbrev pub invariant-loop-a : goal.invariant-loop-a
-invariant-loop-a l = Tried l.text l.work l.a.b l.a.n l.a.g l.a.m.first l.a.m.segs l.s.id l.count l.suffix
+abbrev pub invariant-loop-graph : goal.invariant-loop-graph
+invariant-loop-graph l = Tried l.text l.work l.fn.a.b l.fn.a.n l.fn.a.g l.fn.a.m.first l.fn.a.m.segs l.id l.count l.suffix
 
-abbrev pub decreases-loop-a : goal.decreases-loop-a
-decreases-loop-a l = l.a.n.segs + l.a.m.segs - l.suffix
+abbrev pub decreases-loop-graph : goal.decreases-loop-graph
+decreases-loop-graph l = l.fn.a.n.segs + l.fn.a.m.segs - l.suffix

@@ -5,5 +5,5 @@ use Rattle.new_ids.proofs.ids.put_id.Goals as goal
 pub returns-then-a-k : goal.returns-then-a-k
 returns-then-a-k c = search behind_written
 
-pub returns : goal.returns
-returns c = search front_written
+pub returns-else-a-k : goal.returns-else-a-k
+returns-else-a-k c = search front_written

@@ -1,13 +1,9 @@
 -- `new_ids::rows::put_new_id` meets its contract: a number, or a name.
-use native.Mathlib.Omega.{arith}
-use Rattle.new_ids.proofs.NewRows.{numbered_small, number_written, name_written}
+use Rattle.new_ids.proofs.NewRows.{puts_number, puts_name}
 use Rattle.new_ids.proofs.rows.put_new_id.Goals as goal
 
-pub overflow_add-a : goal.overflow_add-a
-overflow_add-a c = omega (arith, numbered_small _ _ c.is_numbered.ensures c.if-is_numbered.true)
-
 pub returns-then-is_numbered : goal.returns-then-is_numbered
-returns-then-is_numbered c = search number_written
+returns-then-is_numbered c = search puts_number
 
-pub returns : goal.returns
-returns c = search name_written
+pub returns-else-is_numbered : goal.returns-else-is_numbered
+returns-else-is_numbered c = search puts_name

@@ -1,15 +1,13 @@
-use Rattle.new_names.proofs.Likeness.{plain_start, plain_no, plain_more}
-use Rattle.scan.proofs.SameNames.{back_yes}
+use native.Mathlib.Omega.{arith}
+use mathlib.Core.Path.{◌≡◌}
+use Rattle.new_names.proofs.Likeness.{plain_no, plain_more, plain_yes}
 use Rattle.new_names.proofs.sanitized.is_plain.Goals as goal
 
-pub loop-k-init : goal.loop-k-init
-loop-k-init c = plain_start _
-
 pub returns-then-s-i : goal.returns-then-s-i
-returns-then-s-i c = search plain_no
+returns-then-s-i c = plain_no _ (omega arith) c.plain_byte.ensures c.if-s-i.true
 
-pub loop-k-preserved : goal.loop-k-preserved
-loop-k-preserved c = search plain_more
+pub loop-i-preserved : goal.loop-i-preserved
+loop-i-preserved c = plain_more _ (omega arith) c.plain_byte.ensures (omega arith) c.loop-i.invariant c.if-s-i.false
 
 pub returns : goal.returns
-returns c = search back_yes
+returns c = let z : c.loop-i.i ≡ 0 = omega arith in plain_yes _ (rw z at c.loop-i.invariant)

@@ -4,7 +4,7 @@ use Rattle.node_lines.proofs.Grouping.{Bucketing}
 use Rattle.node_lines.proofs.buckets.put_buckets.Given as goal
 
 abbrev pub invariant-loop-i : goal.invariant-loop-i
-invariant-loop-i l = Bucketing l.limit l.initial.out l.at l.work l.table l.nums l.m l.out l.next l.i
+invariant-loop-i l = Bucketing l.initial.w l.work l.table l.nums l.m l.w l.i
 
 abbrev pub decreases-loop-i : goal.decreases-loop-i
 decreases-loop-i l = l.m - l.i

@@ -7,8 +7,8 @@ pub returns : goal.returns
 unfolding node_lines
 returns c =
     thirteen _ _ _ _ _ _ _ _ _ _ _ _ _
-    c.put_names-first.ensures
-    c.put_preview_line-second.ensures
-    c.put_links-third.ensures
-    c.put_counts-fourth.ensures
+    c.put_names.ensures
+    c.put_preview_line.ensures
+    c.put_links.ensures
+    c.put_counts.ensures
     c.put_path_line.ensures

@@ -1,17 +1,15 @@
 -- `node_lines::output::put_pair` meets its contract: the pair is not there, or it is the first, or it is behind another. Assumes nothing.
-use native.Mathlib.Omega.{arith}
-use borrow.Author.Tests.{ne_eqb}
-use Rattle.node_lines.proofs.Pieces.{pair_first, pair_next}
-use Rattle.node_lines.specs.NodeLines.{has_pair, pair_piece}
-use Rattle.writers.proofs.Writing.{nothing}
+use Rattle.node_lines.proofs.Pieces.{pair_none, pair_first, pair_next}
 use Rattle.node_lines.proofs.output.put_pair.Goals as goal
 
 pub returns-then-bits-weight-ne1 : goal.returns-then-bits-weight-ne1
-unfolding pair_piece has_pair
-returns-then-bits-weight-ne1 c = rw (ne_eqb _ 1 c.if-bits-weight-ne1.true) (nothing (omega arith))
+returns-then-bits-weight-ne1 c = rw (← c.weight-weight.ensures.0) (pair_none _ _ _ _ c.if-bits-weight-ne1.true)
 
 pub returns-then-bits-weight-eq0 : goal.returns-then-bits-weight-eq0
-returns-then-bits-weight-eq0 c = search pair_first
+returns-then-bits-weight-eq0 c =
+    rw (← c.weight-weight.ensures.0, ← c.sign.ensures, ← c.sign-then-bits-weight-eq0.ensures) (pair_first _ _ _ _ c.if-bits-weight-ne1.false c.if-bits-weight-eq0.true c.put.ensures)
 
-pub returns : goal.returns
-returns c = search pair_next
+pub returns-else-bits-weight-eq0 : goal.returns-else-bits-weight-eq0
+returns-else-bits-weight-eq0 c =
+    rw (← c.weight-weight.ensures.0, ← c.sign-else-bits-weight-eq0.ensures, ← c.sign-else-bits-weight-eq0-2.ensures)
+    (pair_next _ _ _ _ c.if-bits-weight-ne1.false c.if-bits-weight-eq0.false c.put-else-bits-weight-eq0.ensures)

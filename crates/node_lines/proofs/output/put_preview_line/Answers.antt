@@ -3,9 +3,9 @@ use Rattle.gfa_spec.specs.Bytes.{bytes}
 use Rattle.node_lines.proofs.Pieces.{preview_none, preview_some}
 use Rattle.node_lines.proofs.output.put_preview_line.Goals as goal
 
-pub returns-then-number-eq0 : goal.returns-then-number-eq0
+pub returns-in_default : goal.returns-in_default
 unfolding bytes
-returns-then-number-eq0 c = search preview_none
+returns-in_default c = search preview_none
 
 pub returns : goal.returns
 unfolding bytes

@@ -1,6 +1,12 @@
--- `normalize_tables::rows::put_new_segment` meets its contract.
-use Rattle.normalize_tables.proofs.NewByNumber.{segment_put}
+-- `normalize_tables::rows::put_new_segment` meets its contract: the four words say the row.
+use Rattle.std.proofs.Common.{rules}
+use Rattle.normalize_tables.proofs.Words.{segment_told}
 use Rattle.normalize_tables.proofs.rows.put_new_segment.Goals as goal
 
 pub returns : goal.returns
-returns c = search segment_put
+returns c =
+    record {
+      words = segment_told c.put_row.new.work c.args.g c.args.j c.args.r (search rules) (search rules) (search rules) (search rules);
+      long = search rules;
+      only = search rules;
+    }

@@ -2,8 +2,8 @@
 use Rattle.path_lines.proofs.PathLines.{overlaps_missing, overlaps_there}
 use Rattle.path_lines.proofs.paths.put_overlaps.Goals as goal
 
-pub returns-in_default : goal.returns-in_default
-returns-in_default c = search overlaps_missing
+pub returns-in-Some : goal.returns-in-Some
+returns-in-Some c = search overlaps_there
 
-pub returns : goal.returns
-returns c = search overlaps_there
+pub returns-in-None : goal.returns-in-None
+returns-in-None c = search overlaps_missing

@@ -1,11 +1,8 @@
-use Rattle.writers.proofs.Rowing.{rowing_start, rowing_more, rowing_end}
+use Rattle.writers.proofs.Rowing.{pieces_none, pieces_next}
 use Rattle.path_lines.proofs.paths.put_tokens.Goals as goal
 
 pub loop-k-init : goal.loop-k-init
-loop-k-init c = search rowing_start
+loop-k-init c = pieces_none _
 
 pub loop-k-preserved : goal.loop-k-preserved
-loop-k-preserved c = search rowing_more
-
-pub returns : goal.returns
-returns c = search rowing_end
+loop-k-preserved c = pieces_next _ c.loop-k.invariant c.put_token.ensures

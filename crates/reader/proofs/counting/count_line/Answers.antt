@@ -1,9 +1,9 @@
--- `reader::counting::count_line` meets its contract, by the line's first byte. Assumes nothing.
+-- `reader::counting::count_line` meets its contract. Assumes nothing.
 use Rattle.reader.proofs.Tallying.{tally_short, tally_segment, tally_link, tally_path, tally_none}
 use Rattle.reader.proofs.counting.count_line.Goals as goal
 
-pub returns-then-size-lt2 : goal.returns-then-size-lt2
-returns-then-size-lt2 c = search tally_short
+pub returns-then-line-lt2 : goal.returns-then-line-lt2
+returns-then-line-lt2 c = search tally_short
 
 pub returns-in-83 : goal.returns-in-83
 returns-in-83 c = search tally_segment

@@ -1,15 +1,12 @@
--- `reader::input::admit` meets its contract, test by test. Assumes nothing.
-use Rattle.reader.proofs.Admitting.{admit_long, admit_bad, admit_small, admit_all}
+-- `reader::input::admit` meets its contract. Assumes nothing.
+use Rattle.reader.proofs.Admitting.{admit_long, admit_bad, admit_small}
 use Rattle.reader.proofs.input.admit.Goals as goal
 
 pub returns-then-text-gt1048576 : goal.returns-then-text-gt1048576
-returns-then-text-gt1048576 c = search admit_long
+returns-then-text-gt1048576 c = admit_long c.if-text-gt1048576.true c.of.ensures
 
-pub returns-in-At : goal.returns-in-At
-returns-in-At c = search admit_bad
+pub returns-in-Some : goal.returns-in-Some
+returns-in-Some c = search admit_bad
 
 pub returns-then-words-text : goal.returns-then-words-text
-returns-then-words-text c = search admit_small
-
-pub returns : goal.returns
-returns c = search admit_all
+returns-then-words-text c = admit_small c.if-text-gt1048576.false c.bad_byte.ensures c.in_default.is c.if-words-text.true c.of-then-words-text.ensures

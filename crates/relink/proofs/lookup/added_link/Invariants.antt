@@ -1,10 +1,6 @@
 -- `relink::lookup::added_link` meets its contract. The loop's invariant is its state at an added link. Assumes nothing.
-use Prim.Native.Nat.{◌-◌}
 use Rattle.relink.proofs.Lookups.{Comparing}
 use Rattle.relink.proofs.lookup.added_link.Given as goal
 
 abbrev pub invariant-loop-i : goal.invariant-loop-i
 invariant-loop-i l = Comparing l.text l.work l.a.b l.a.n l.a.g l.a.m l.added l.p l.i
-
-abbrev pub decreases-loop-i : goal.decreases-loop-i
-decreases-loop-i l = l.added - l.i

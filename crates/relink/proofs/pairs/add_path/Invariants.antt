@@ -4,7 +4,4 @@ use Rattle.relink.proofs.Adding.{Pairing}
 use Rattle.relink.proofs.pairs.add_path.Given as goal
 
 abbrev pub invariant-loop-k : goal.invariant-loop-k
-invariant-loop-k l = Pairing l.text l.initial.work l.work l.a.b l.a.n l.a.g l.a.m l.initial.now l.first l.end l.now l.k
-
-abbrev pub decreases-loop-k : goal.decreases-loop-k
-decreases-loop-k l = l.end - l.k
+invariant-loop-k l = Pairing l.text l.initial.work l.work l.a.b l.a.n l.a.g l.a.m l.initial.now l.first l.end l.now (l.k - 1)

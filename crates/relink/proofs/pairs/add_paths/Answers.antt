@@ -1,5 +1,5 @@
 use borrow.Author.Rules.{rules}
-use Rattle.relink.proofs.Adding.{passing_start, passing_room, passing_more, passing_end}
+use Rattle.relink.proofs.Adding.{passing_start, passing_room, passing_more}
 use Rattle.relink.proofs.pairs.add_paths.Goals as goal
 
 pub loop-p-init : goal.loop-p-init
@@ -11,6 +11,3 @@ add_path-s-requires c = record { relinkable = search rules; first_le_end = (sear
 pub loop-p-preserved : goal.loop-p-preserved
 loop-p-preserved c =
     passing_more c.loop-p.invariant c.loop-p-test.true c.new_path_at-path.ensures c.add_path-s.ensures
-
-pub returns : goal.returns
-returns c = search passing_end

@@ -1,19 +1,18 @@
 -- `report::services::answer_report` meets its contract: the text is refused, or reported. Assumes nothing.
-use Rattle.reader.proofs.Serving.{input_readable}
-use Rattle.report.proofs.Answering.{report_refused, input_tabled, input_reportable, report_answered}
+use Rattle.std.proofs.lemmas.Result.{err_from_is_err_and}
+use Rattle.report.proofs.Serving.{report_refused, input_tabled, input_reportable, report_answered}
 use Rattle.report.proofs.services.answer_report.Goals as goal
 
-pub returns-in_default : goal.returns-in_default
-returns-in_default c = search report_refused
-
-pub totals_of-t-requires : goal.totals_of-t-requires
-totals_of-t-requires c = search input_readable
+pub returns-in_err-b : goal.returns-in_err-b
+returns-in_err-b c =
+    let p = err_from_is_err_and c.from_residual.result c.from_residual.ensures.1 in
+    rw (p.1, p.2) (report_refused _ c.parse_gfa.ensures c.in_err-b.was)
 
 pub rank_nodes-m-requires : goal.rank_nodes-m-requires
-rank_nodes-m-requires c = search input_tabled
+rank_nodes-m-requires c = input_tabled c.parse_gfa.ensures c.in_ok-b.was
 
 pub write_report-requires : goal.write_report-requires
-write_report-requires c = search input_reportable
+write_report-requires c = input_reportable c.parse_gfa.ensures c.in_ok-b.was c.rank_nodes-m.ensures
 
 pub returns : goal.returns
-returns c = search report_answered
+returns c = report_answered c.parse_gfa.ensures c.in_ok-b.was _ _ c.totals_of-t.ensures c.rank_nodes-m.ensures c.write_report.ensures

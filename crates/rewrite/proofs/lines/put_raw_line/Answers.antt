@@ -1,12 +1,12 @@
 -- `rewrite::lines::put_raw_line` meets its contract: the line is of another class, or it is written. Assumes nothing.
-use Rattle.rewrite.proofs.RawLines.{raw_place, raw_passed, raw_written}
+use Rattle.rewrite.proofs.RawLines.{raw_place, raw_passed, raw_put}
 use Rattle.rewrite.proofs.lines.put_raw_line.Goals as goal
 
-pub returns-then-class_number : goal.returns-then-class_number
-returns-then-class_number c = search raw_passed
+pub of-requires : goal.of-requires
+of-requires c = search raw_place
 
-pub put_line-requires : goal.put_line-requires
-put_line-requires c = search raw_place
+pub returns-in-Some : goal.returns-in-Some
+returns-in-Some c = search raw_put
 
-pub returns : goal.returns
-returns c = search raw_written
+pub returns-in_default : goal.returns-in_default
+returns-in_default c = search raw_passed

@@ -1,11 +1,8 @@
-use Rattle.writers.proofs.Rowing.{rowing_start, rowing_more, rowing_end}
+use Rattle.writers.proofs.Rowing.{pieces_none, pieces_next}
 use Rattle.rewrite.proofs.lines.put_segments.Goals as goal
 
 pub loop-i-init : goal.loop-i-init
-loop-i-init c = search rowing_start
+loop-i-init c = pieces_none _
 
 pub loop-i-preserved : goal.loop-i-preserved
-loop-i-preserved c = search rowing_more
-
-pub returns : goal.returns
-returns c = search rowing_end
+loop-i-preserved c = pieces_next _ c.loop-i.invariant c.put_segment.ensures

@@ -1,11 +1,7 @@
--- `rewrite::lines::put_segments` meets its contract. The loop's invariant is its state at a segment. Assumes nothing.
-use Prim.Native.Nat.{◌-◌}
+-- `rewrite::lines::put_segments` writes the piece of each segment. Assumes nothing.
+use Rattle.writers.specs.Writers.{Puts, pieces_to}
 use Rattle.rewrite.specs.Pieces.{segment_piece}
-use Rattle.writers.proofs.Rowing.{Rowing}
 use Rattle.rewrite.proofs.lines.put_segments.Given as goal
 
 abbrev pub invariant-loop-i : goal.invariant-loop-i
-invariant-loop-i l = Rowing (segment_piece l.text l.work l.a.b) l.limit l.initial.out l.at l.a.n.segs l.out l.next l.i
-
-abbrev pub decreases-loop-i : goal.decreases-loop-i
-decreases-loop-i l = l.a.n.segs - l.i
+invariant-loop-i l = Puts l.initial.w (pieces_to (segment_piece l.graph.text.now l.graph.work.now l.graph.b) l.i) l.w

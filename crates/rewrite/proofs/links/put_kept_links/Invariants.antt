@@ -1,11 +1,7 @@
--- `rewrite::links::put_kept_links` meets its contract. The loop's invariant is its state at a link. Assumes nothing.
-use Prim.Native.Nat.{◌-◌}
+-- `rewrite::links::put_kept_links` writes the piece of each link. Assumes nothing.
+use Rattle.writers.specs.Writers.{Puts, pieces_to}
 use Rattle.rewrite.specs.Pieces.{kept_piece}
-use Rattle.writers.proofs.Rowing.{Rowing}
 use Rattle.rewrite.proofs.links.put_kept_links.Given as goal
 
 abbrev pub invariant-loop-i : goal.invariant-loop-i
-invariant-loop-i l = Rowing (kept_piece l.text l.work l.a.b l.a.g) l.limit l.initial.out l.at l.a.n.links l.out l.next l.i
-
-abbrev pub decreases-loop-i : goal.decreases-loop-i
-decreases-loop-i l = l.a.n.links - l.i
+invariant-loop-i l = Puts l.initial.w (pieces_to (kept_piece l.text l.work l.a.b l.a.g) l.i) l.w

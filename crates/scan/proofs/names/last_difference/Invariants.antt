@@ -1,11 +1,6 @@
--- `scan::names::last_difference` meets its contract. The loop's invariant is the state of the comparison. Assumes nothing.
-use Prim.Native.Nat.{◌-◌}
-use lib.ListN.{length}
-use Rattle.scan.proofs.SameNames.{Backward}
+-- `scan::names::last_difference` meets its contract. The loop's invariant: from `i` on the strings agree. Assumes nothing.
+use Rattle.gfa_spec.specs.Bytes.{AgreeFrom}
 use Rattle.scan.proofs.names.last_difference.Given as goal
 
-abbrev pub invariant-loop-k : goal.invariant-loop-k
-invariant-loop-k l = Backward l.s l.t l.k
-
-abbrev pub decreases-loop-k : goal.decreases-loop-k
-decreases-loop-k l = length l.s - l.k
+abbrev pub invariant-loop-i : goal.invariant-loop-i
+invariant-loop-i l = AgreeFrom l.s l.t l.i

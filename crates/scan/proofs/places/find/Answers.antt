@@ -1,3 +1,4 @@
+use Rattle.std.proofs.Common.{arith, ◌≡◌}
 use Rattle.scan.proofs.Finding.{finding_start, finding_hit, finding_more, finding_end}
 use Rattle.scan.proofs.places.find.Goals as goal
 
@@ -11,4 +12,4 @@ pub loop-i-preserved : goal.loop-i-preserved
 loop-i-preserved c = finding_more c.loop-i.invariant c.loop-i-test.true c.if-text-i.false
 
 pub returns : goal.returns
-returns c = finding_end c.loop-i.invariant c.loop-i-test.false
+returns c = let e : c.loop-i.i ≡ c.args.to = omega arith in rw e at (finding_end c.loop-i.invariant c.loop-i-test.false)

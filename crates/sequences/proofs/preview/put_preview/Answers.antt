@@ -1,17 +1,15 @@
--- `sequences::preview::put_preview` meets its contract: by the length of the part.
-use native.Mathlib.Omega.{arith}
-use mathlib.Core.List.{◌++◌}
-use mathlib.Core.Path.{sym, ap, ◌∙◌}
-use Rattle.gfa_spec.proofs.Parts.{length_part, part_front}
-use Rattle.sequences.proofs.SequenceLaws.{preview_long}
-use Rattle.writers.proofs.Writing.{being, ◌▷◌}
+-- `sequences::preview::put_preview` meets its contract: by how long the sequence is.
+use Rattle.std.proofs.Common.{sym, arith, length-take-le}
 use Rattle.gfa_spec.specs.Bytes.{bytes}
+use Rattle.sequences.proofs.SequenceLaws.{puts_short, puts_long}
 use Rattle.sequences.proofs.preview.put_preview.Goals as goal
 
-pub returns : goal.returns
+pub slice_bounds-put-end : goal.slice_bounds-put-end
+slice_bounds-put-end c = sym (length-take-le _ c.args.s.now (omega arith))
+
+pub returns-then-s-le-SHOWN : goal.returns-then-s-le-SHOWN
+returns-then-s-le-SHOWN c = puts_short c.args.s.now c.if-s-le-SHOWN.true c.put.ensures
+
+pub returns-else-s-le-SHOWN : goal.returns-else-s-le-SHOWN
 unfolding bytes
-returns c =
-    let a = c.args in
-    let long = length_part a.from a.n a.text.now (omega arith) in
-    let front = part_front a.from a.n 48 a.text.now (omega arith) in
-    being (sym (preview_long _ (omega arith) ∙ ap (λ l. l ++ bytes "...") front)) (c.put_bytes-next.ensures ▷ c.put_constant.ensures)
+returns-else-s-le-SHOWN c = puts_long c.args.s.now c.if-s-le-SHOWN.false c.put-else-s-le-SHOWN.ensures c.put-else-s-le-SHOWN-2.ensures

@@ -1,18 +1,11 @@
--- `spelling::spelling::put_step` meets its contract, by the sequence that it finds. Assumes nothing.
-use Rattle.spelling.proofs.Spelled.{step_unknown, sequence_inside, step_star, step_put}
+-- `spelling::spelling::put_step` meets its contract: the two refusals. Assumes nothing.
+use mathlib.Core.Path.{ap, ◌∙◌}
+use Rattle.gfa_spec.specs.Bytes.{same, star}
+use Rattle.spelling.proofs.Spelled.{step_unknown, step_star}
 use Rattle.spelling.proofs.spelling.put_step.Goals as goal
 
 pub returns-in_default : goal.returns-in_default
-returns-in_default c = search step_unknown
-
-pub is_star-requires : goal.is_star-requires
-is_star-requires c = search sequence_inside
+returns-in_default c = step_unknown c.step-step.ensures c.sequence_of.ensures c.in_default.is c.refused.ensures
 
 pub returns-then-is_star : goal.returns-then-is_star
-returns-then-is_star c = search step_star
-
-pub put_oriented-next-requires : goal.put_oriented-next-requires
-put_oriented-next-requires c = search sequence_inside
-
-pub returns : goal.returns
-returns c = search step_put
+returns-then-is_star c = step_star c.step-step.ensures c.sequence_of.ensures c.in-Some.is (c.is_star.ensures ∙ ap (λ s. same s star) c.of-sequence.ensures) c.if-is_star.true c.refused-then-is_star.ensures

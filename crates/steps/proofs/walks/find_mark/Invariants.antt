@@ -1,10 +1,6 @@
 -- `steps::walks::find_mark` meets its contract. The loop's invariant is the search's state. Assumes nothing.
-use Prim.Native.Nat.{◌-◌}
 use Rattle.steps.proofs.Walking.{Marking}
 use Rattle.steps.proofs.walks.find_mark.Given as goal
 
 abbrev pub invariant-loop-i : goal.invariant-loop-i
 invariant-loop-i l = Marking l.text l.from l.to l.i
-
-abbrev pub decreases-loop-i : goal.decreases-loop-i
-decreases-loop-i l = l.to - l.i

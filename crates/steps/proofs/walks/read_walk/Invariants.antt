@@ -4,7 +4,7 @@ use Rattle.steps.proofs.Walking.{Walking}
 use Rattle.steps.proofs.walks.read_walk.Given as goal
 
 abbrev pub invariant-loop-at : goal.invariant-loop-at
-invariant-loop-at l = Walking l.text l.initial.work l.work l.base l.start l.size l.at l.n
+invariant-loop-at l = Walking l.text l.initial.work l.work l.base l.fn.field.start l.fn.field.size l.at l.n
 
 abbrev pub decreases-loop-at : goal.decreases-loop-at
-decreases-loop-at l = l.start + l.size - l.at
+decreases-loop-at l = l.fn.field.start + l.fn.field.size - l.at

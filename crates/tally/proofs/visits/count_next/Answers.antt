@@ -5,18 +5,7 @@ use Rattle.tally.proofs.Visiting.{fit_less, next_ready, next_counted}
 use Rattle.tally.proofs.visits.count_next.Goals as goal
 
 pub count_run-requires : goal.count_run-requires
-count_run-requires c =
-    let tables-end = c.tables_end-table in
-    let pre = c.requires in
-    let run-from = c.run_from-r in
-    (search next_ready, search rules, search rules, search rules, rw tables-end.ensures (fit_less pre.4 (omega (arith, run-from.ensures.high)) (omega arith)))
+count_run-requires c = (search next_ready, search rules, search rules, search rules, rw c.end-table.ensures (fit_less c.requires.4 (omega (arith, c.run_from-r.ensures.high)) (omega arith)))
 
 pub returns : goal.returns
-returns c =
-    let run-from = c.run_from-r in
-    let pre = c.requires in
-    let tables-end = c.tables_end-table in
-    let step-at = c.step_at in
-    let goes_on = c.goes_on-more in
-    let count-run = c.count_run in
-    next_counted run-from.ensures pre.0 tables-end.ensures step-at.ensures goes_on.ensures count-run.ensures
+returns c = next_counted c.run_from-r.ensures c.requires.0 c.end-table.ensures c.step.ensures c.goes_on-more.ensures c.count_run.ensures

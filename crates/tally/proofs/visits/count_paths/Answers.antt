@@ -9,7 +9,7 @@ pub count_path-requires : goal.count_path-requires
 count_path-requires c =
     let loop = c.loop-p in
     let if1 = c.loop-p-test in
-    let path-at = c.path_at-path in
+    let path-at = c.path-path in
     (search rules, search rules, search rules, search rules, passing_fits loop.invariant if1.true path-at.ensures)
 
 pub loop-p-preserved : goal.loop-p-preserved

@@ -1,10 +1,6 @@
 -- `tally::visits::count_paths` meets its contract. The loop's invariant is its state at a path. Assumes nothing.
-use Prim.Native.Nat.{◌-◌}
 use Rattle.tally.proofs.Passing.{Passing}
 use Rattle.tally.proofs.visits.count_paths.Given as goal
 
 abbrev pub invariant-loop-p : goal.invariant-loop-p
 invariant-loop-p l = Passing l.text l.initial.work l.work l.b l.n l.m l.p
-
-abbrev pub decreases-loop-p : goal.decreases-loop-p
-decreases-loop-p l = l.n.paths - l.p

@@ -1,10 +1,6 @@
 -- `targets::eligible::keep_units` meets its contract. The loop's invariant is its state at a segment. Assumes nothing.
-use Prim.Native.Nat.{◌-◌}
 use Rattle.targets.proofs.EligibleMarks.{Leaving}
 use Rattle.targets.proofs.eligible.keep_units.Given as goal
 
 abbrev pub invariant-loop-i : goal.invariant-loop-i
 invariant-loop-i l = Leaving l.cap l.text l.initial.work l.work l.b l.n l.marks l.i
-
-abbrev pub decreases-loop-i : goal.decreases-loop-i
-decreases-loop-i l = l.n.segs - l.i

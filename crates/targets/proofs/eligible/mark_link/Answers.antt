@@ -2,8 +2,8 @@
 use Rattle.targets.proofs.EligibleMarks.{link_other, link_marked}
 use Rattle.targets.proofs.eligible.mark_link.Goals as goal
 
-pub returns-then-not-same_name : goal.returns-then-not-same_name
-returns-then-not-same_name c = search link_other
+pub returns-else-is_self_link : goal.returns-else-is_self_link
+returns-else-is_self_link c = search link_other
 
-pub returns : goal.returns
-returns c = search link_marked
+pub returns-then-is_self_link : goal.returns-then-is_self_link
+returns-then-is_self_link c = search link_marked

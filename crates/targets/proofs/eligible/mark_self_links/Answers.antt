@@ -1,4 +1,4 @@
-use Rattle.targets.proofs.EligibleMarks.{linking_start, linking_more, linking_end}
+use Rattle.targets.proofs.EligibleMarks.{linking_start, linking_more}
 use Rattle.targets.proofs.eligible.mark_self_links.Goals as goal
 
 pub loop-i-init : goal.loop-i-init
@@ -6,6 +6,3 @@ loop-i-init c = search linking_start
 
 pub loop-i-preserved : goal.loop-i-preserved
 loop-i-preserved c = search linking_more
-
-pub returns : goal.returns
-returns c = search linking_end

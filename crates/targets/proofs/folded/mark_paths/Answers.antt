@@ -1,11 +1,8 @@
-use Rattle.targets.proofs.FoldedMarks.{visiting_start, visiting_more, visiting_end}
+use Rattle.targets.proofs.FoldedMarks.{visiting_start, visiting_more}
 use Rattle.targets.proofs.folded.mark_paths.Goals as goal
 
 pub loop-p-init : goal.loop-p-init
 loop-p-init c = search visiting_start
 
 pub loop-p-preserved : goal.loop-p-preserved
-loop-p-preserved c = visiting_more c.loop-p.invariant c.loop-p-test.true c.path_at-path.ensures c.mark_path.ensures
-
-pub returns : goal.returns
-returns c = search visiting_end
+loop-p-preserved c = visiting_more c.loop-p.invariant c.loop-p-test.true c.path-path.ensures c.mark_path.ensures

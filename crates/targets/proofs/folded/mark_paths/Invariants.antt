@@ -1,10 +1,6 @@
 -- `targets::folded::mark_paths` meets its contract. The loop's invariant is its state at a path. Assumes nothing.
-use Prim.Native.Nat.{◌-◌}
 use Rattle.targets.proofs.FoldedMarks.{Visiting}
 use Rattle.targets.proofs.folded.mark_paths.Given as goal
 
 abbrev pub invariant-loop-p : goal.invariant-loop-p
 invariant-loop-p l = Visiting l.text l.initial.work l.work l.b l.n l.marks l.p
-
-abbrev pub decreases-loop-p : goal.decreases-loop-p
-decreases-loop-p l = l.n.paths - l.p

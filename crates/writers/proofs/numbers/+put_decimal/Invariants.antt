@@ -1,4 +1,4 @@
--- `writers::numbers::put_decimal` meets its contract. The measure is the number.
+-- `writers::numbers::put_decimal` ends: each number is smaller. Assumes nothing.
 use Rattle.writers.proofs.numbers.+put_decimal.Given as goal
 
 abbrev pub decreases-put_decimal : goal.decreases-put_decimal

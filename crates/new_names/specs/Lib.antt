@@ -1,2 +1,0 @@
--- What the contracts of the comparison of names say.
-pub mod Likeness
