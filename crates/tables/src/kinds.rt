@@ -22,10 +22,7 @@ impl PathKind {
         ensures word { result ≡ kind_word self }
         ensures small { result ≤ 1 }
     {
-        match self {
-            PathKind::P => 0,
-            PathKind::W => 1,
-        }
+        self as usize
     }
 
     // The field of its lines that holds the steps.
