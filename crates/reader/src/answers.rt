@@ -1,7 +1,7 @@
 // What every call answers (document 01, "Refused calls").
 use refusals::refusal::Refusal;
 
-// Number 0 is acceptance, its length the bytes written; a field not named is 0.
+// Number 0 is acceptance, its length the bytes written; a field not named is 0. Numbers, since C reads them.
 #[repr(C)]
 #[derive(Clone, Copy)]
 pub struct Answer {

@@ -3,7 +3,7 @@ ghost use Rattle.std.specs.Prelude.{◌≡◌, ◌+◌, ◌≤◌, length};
 ghost use Rattle.work.specs.Rows.{Small};
 ghost use Rattle.tables.specs.Entries.{words_of, record_at};
 
-// Numbers of segments, of links and of paths, each counted from 0.
+// Numbers of segments, of links and of paths, each counted from 0: three types, so that none is taken for another.
 #[derive(Clone, Copy)]
 pub struct SegmentNo(pub u32);
 
@@ -13,7 +13,7 @@ pub struct LinkNo(pub u32);
 #[derive(Clone, Copy)]
 pub struct PathNo(pub u32);
 
-// The place of a line in the text.
+// The place of a line in the text, as the words of its row are: of a `Place` it would have to be shown that it fits them.
 #[derive(Clone, Copy)]
 pub struct RawLine {
     pub start: u32,

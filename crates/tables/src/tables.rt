@@ -23,7 +23,7 @@ pub struct Bases {
     pub steps: usize,
 }
 
-// How many rows each table has.
+// How many rows each table has: a type of its own beside `Bases`, so that no place is taken for a number of rows.
 #[derive(Clone, Copy)]
 pub struct Counts {
     pub lines: usize,

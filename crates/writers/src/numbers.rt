@@ -13,7 +13,8 @@ fn digit(n: u64) -> u8
     b'0' + n as u8
 }
 
-// A number in decimal: the digits before the last, and the last.
+// A number in decimal: the digits before the last, and the last. By `write!` it would be proved only where that answers Ok, and that it does
+// is proved of no writer.
 pub fn put_decimal(w: &mut Writer, n: u64)
     ensures { Puts w.old (decimal n) w.new }
 {
