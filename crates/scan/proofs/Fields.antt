@@ -1,61 +1,65 @@
--- The search for a field of a line: its state, and how it goes on. Assumes nothing.
-use Prim.Native.Nat.{ℕ, suc, ◌+◌, ◌-◌, ◌≤◌, ◌<◌}
-use native.Mathlib.Numerals.{add-one}
+-- Field k of a line: what an iterator over its parts gives after k others. Assumes nothing.
+use Prim.Native.Nat.{ℕ, ◌+◌, ◌≤◌}
 use native.Mathlib.Omega.{arith}
-use mathlib.Core.List.{List}
-use mathlib.Core.Path.{◌≡◌, ap}
+use mathlib.Core.List.{List, [], ◌∷◌}
+use mathlib.Core.Path.{◌≡◌, refl, ap, ◌∙◌}
 use lib.ListN.{length}
-use lib.Seq.{slice}
 use Rattle.std.specs.Prelude.{Option, None, Some}
 use Rattle.scan.specs.declared.places.Place.{Place}
-use Rattle.gfa_spec.specs.Bytes.{part, split, nth}
+use Rattle.gfa_spec.specs.Bytes.{part, nth}
 use Rattle.gfa_spec.specs.Reading.{fields, field, nowhere}
-use Rattle.scan.specs.Places.{FirstIs, FoundAt, FewFields, FieldIs, part_at}
-use Rattle.scan.proofs.Cutting.{part_slice, part_range, split_range, split_more, split_last}
+use Rattle.std.specs.Iterator.{Yields, SkipsThenYields}
+use Rattle.scan.specs.declared.split.Split.{Split}
+use Rattle.scan.specs.Parts.{parts_left, AllParts, PartGiven}
+use Rattle.scan.specs.Places.{FoundAt, FewFields, FieldIs, part_at}
 
--- The state: field k of the line is field `left` of what begins at `at`.
-pub record FieldSearch (text : List ℕ) (start size k at left : ℕ) : Type 0 where
-  pub inside : start + size ≤ length text
-  pub low : start ≤ at
-  pub high : at ≤ start + size
-  pub count : length (fields (part_at text start size)) + left ≡ k + length (split 9 at (slice at (start + size) text))
-  pub same : nth k (fields (part_at text start size)) nowhere ≡ nth left (split 9 at (slice at (start + size) text)) nowhere
+-- What n parts leave that were given: so many fewer, and part n first.
+record PartsPassed (s : Split) (n : ℕ) (t : Split) : Type 0 where
+  pub same : t.text ≡ s.text
+  pub end : t.end ≡ s.end
+  pub count : length (parts_left s) ≡ n + length (parts_left t)
+  pub first : nth n (parts_left s) nowhere ≡ nth 0 (parts_left t) nowhere
 
-module _ {text : List ℕ} {line : Place} {k : ℕ} where
-  pub field_start : line.start + line.size ≤ length text → FieldSearch text line.start line.size k line.start k
-  unfolding fields part_at
-  field_start h =
-      let e = part_slice line.start line.size text in
-      record { inside = h; low = omega arith; high = omega arith; count = rw e (omega arith); same = rw e }
+passed : (s t : Split) (xs : List Place) → Yields PartGiven s xs t → PartsPassed s (length xs) t
+unfolding nth
+passed s t [] e = rw e (record { same = refl; end = refl; count = omega arith; first = refl })
+passed s t (x ∷ xs) (j, h, y) =
+    let f = h.says.first in
+    let p = passed j t xs y in
+    record {
+      same = p.same ∙ h.same;
+      end = p.end ∙ h.end;
+      count = rw f (omega (arith, p.count));
+      first = rw f p.first;
+    }
 
-  module _ {at left tab : ℕ} (s : FieldSearch text line.start line.size k at left) (f : FirstIs text 9 at (line.start + line.size) tab) where
-    pub field_missing : 0 < left → tab ≡ line.start + line.size → FieldIs text line k None
-    field_missing h e = record { says = record { few = omega (arith, rw (split_last f (omega arith)) at s.count) } }
+-- the fields of a line are its parts between tabs
+whole_fields : {text : List ℕ} {line : Place} {s : Split} → AllParts text 9 line s → parts_left s ≡ fields (part_at text line.start line.size)
+unfolding fields part_at
+whole_fields w = w.left
 
-    pub field_more : {rest : ℕ} → left ≡ suc rest → (tab ≡ line.start + line.size → ⊥) → FieldSearch text line.start line.size k (tab + 1) rest
-    unfolding nth
-    field_more l e =
-        let m = split_more f (omega arith) s.inside in
-        record {
-          inside = s.inside;
-          low = omega arith;
-          high = omega arith;
-          count = rw add-one (omega (arith, rw m at s.count));
-          same = rw add-one (rw (m, l) at s.same);
-        }
-
-    pub field_found : left ≤ 0 → FieldIs text line k (Some (record { start = at; size = tab - at }))
-    unfolding nth part_at
-    field_found h =
-        let z : left ≡ 0 = omega arith in
-        record {
-          says =
-              record {
-                more = omega (arith, rw (split_range f) at s.count);
-                field = rw (part_range at tab text f.low) (rw (split_range f, z) at s.same);
-                inside = omega arith;
-              };
-        }
+-- field k is part k
+module _ {text : List ℕ} {line : Place} {k : ℕ} (inside : line.start + line.size ≤ length text) {s u : Split} (w : AllParts text 9 line s) where
+  pub field_by_parts : {r : Option Place} → SkipsThenYields PartGiven s k r u → FieldIs text line k r
+  unfolding nth
+  field_by_parts {r} y = go r y
+    where
+      go : (r : Option Place) → SkipsThenYields PartGiven s k r u → FieldIs text line k r
+      go None (xs, (t, y, h), l) =
+          let p = passed s t xs y in
+          record { says = record { few = omega (arith, ap length (whole_fields w), p.count, rw h.says.0 at p.count, l) } }
+      go (Some f) (xs, (t, y, h), l) =
+          let p = passed s t xs y in
+          let g = h.says in
+          let e = ap (λ l. l.now) p.same ∙ w.same in
+          record {
+            says =
+                record {
+                  more = omega (arith, ap length (whole_fields w), rw g.first at p.count, l);
+                  field = rw (← whole_fields w, ← l, p.first, g.first, e);
+                  inside = omega (arith, g.high, p.end, w.end, inside);
+                };
+          }
 
 -- the bytes of a field that was found
 pub field_bytes : {text : List ℕ} {start size k at long : ℕ} → FoundAt text start size k at long → field k (fields (part_at text start size)) ≡ part at long text

@@ -2,6 +2,7 @@
 pub mod Finding
 pub mod Cutting
 pub mod LineEnds
+pub mod Parts
 pub mod Fields
 pub mod SameNames
 pub mod SequenceLengths

@@ -10,7 +10,10 @@ use lib.Seq.{slice, slice_empty, take-suc, drop-append-le, take-length, drop-len
 use borrow.Author.Tests.{ne_eqb}
 use Rattle.gfa_spec.specs.Bytes.{Part, part, split, is_empty}
 use Rattle.gfa_spec.specs.Reading.{drop_return, drop_final, line_of, lines}
+use Rattle.std.specs.Prelude.{None}
+use Rattle.scan.specs.declared.lines.Lines.{Lines}
 use Rattle.scan.specs.Places.{FirstIs, TrimmedIs, NextLineIs, lines_at, part_at}
+use Rattle.scan.specs.TextLines.{LineGiven}
 use Rattle.scan.proofs.Cutting.{part_slice, part_range, split_first, split_more, split_last}
 
 -- a range that ends one byte later
@@ -110,3 +113,9 @@ module _ {text : List ℕ} {at end size : ℕ} (h : at < length text) (f : First
         on = omega arith;
         inside = omega arith;
       }
+
+-- none is left at the end
+pub no_line : {s : Lines} → s.at ≡ length s.text.now → LineGiven s None s
+no_line {s} e =
+    let n = no_lines_at s.text.now s.at e in
+    record { same = refl; says = (n, n) }

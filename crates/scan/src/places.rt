@@ -2,6 +2,8 @@
 ghost use Rattle.std.specs.Prelude.{◌+◌, ◌≤◌, ◌<◌, length, ◌≡◌};
 ghost use Rattle.scan.specs.Places.{Inside, bytes_in, FirstIs, TrimmedIs, NextLineIs, FieldIs};
 
+use crate::split::Split;
+
 // A part of a text.
 #[derive(Clone, Copy)]
 pub struct Place {
@@ -72,18 +74,5 @@ pub fn field_at(text: &[u8], line: Place, k: usize) -> Option<Place>
     requires { Inside text.now line }
     ensures { FieldIs text.now line k result }
 {
-    let end = line.start + line.size;
-    let mut at = line.start;
-    for _ in 0..k {
-        let tab = find(text, b'\t', at, end);
-        if tab == end {
-            return None;
-        }
-        at = tab + 1;
-    }
-    let tab = find(text, b'\t', at, end);
-    Some(Place {
-        start: at,
-        size: tab - at,
-    })
+    Split::of(text, b'\t', line).nth(k)
 }
