@@ -1,5 +1,6 @@
 -- Laws of fields of steps.
 pub mod Items
 pub mod Stepping
+pub mod Marks
 pub mod Walking
 pub mod StepFields

@@ -1,2 +1,3 @@
 -- What the contracts on fields of steps say.
 pub mod StepFields
+pub mod WalkSteps

@@ -5,6 +5,7 @@ use Rattle.refusals.specs.Reasons.{number_of}
 use Rattle.std.specs.Prelude.{ℕ, ◌+◌, ◌*◌, ◌-◌, ◌≤◌, ◌<◌, true, cond, List, [], ◌∷◌, ◌++◌, ◌≡◌, length, get_or}
 use Rattle.gfa_spec.specs.Bytes.{Part, part, is_empty}
 use Rattle.gfa_spec.specs.Reading.{Step, Read, refused, accepted, then, step_of, parse_items, is_mark, walk}
+use Rattle.scan.specs.declared.places.Place.{Place}
 use Rattle.scan.specs.Places.{part_at}
 use Rattle.work.specs.Rows.{EachRow, span, Only}
 use Rattle.tables.specs.Steps.{StepRow, steps_at}
@@ -38,29 +39,29 @@ add_steps xs r = then r (λ ys. accepted (xs ++ ys))
 unfoldable pub item_steps : Part → List Step
 item_steps item = cond (is_empty item.bytes) [] (step_of item ∷ [])
 
--- The item from `from` up to `to` is refused, whatever follows it.
-pub record ItemBad (text : List ℕ) (from to k : ℕ) : Type 0 where
-  pub read : (more : List Part) → parse_items (part_at text from (to - from) ∷ more) ≡ refused k
+-- The item is refused, whatever follows it.
+pub record ItemBad (text : List ℕ) (start size k : ℕ) : Type 0 where
+  pub read : (more : List Part) → parse_items (part_at text start size ∷ more) ≡ refused k
 
 -- The item is read, and the table has m steps with it, at most one more for every two bytes; only their rows changed.
-pub record ItemRead (text work work' : List ℕ) (base n from to m : ℕ) : Type 0 where
-  pub read : (more : List Part) → parse_items (part_at text from (to - from) ∷ more) ≡ add_steps (item_steps (part_at text from (to - from))) (parse_items more)
-  pub table : steps_at text work' base m ≡ steps_at text work base n ++ item_steps (part_at text from (to - from))
+pub record ItemRead (text work work' : List ℕ) (base n start size m : ℕ) : Type 0 where
+  pub read : (more : List Part) → parse_items (part_at text start size ∷ more) ≡ add_steps (item_steps (part_at text start size)) (parse_items more)
+  pub table : steps_at text work' base m ≡ steps_at text work base n ++ item_steps (part_at text start size)
   pub rows : EachRow (StepRow text) 3 work base n → EachRow (StepRow text) 3 work' base m
   pub low : n ≤ m
-  pub high : 2 * m + from ≤ 2 * n + to
+  pub high : 2 * m ≤ 2 * n + size
   pub one : m ≤ n + 1
   pub long : length work' ≡ length work
   pub only : Only (span (base + 3 * n) (base + 3 * m) ∷ []) work work'
 
 -- by the cases of the answer
 abbrev pub ItemSays : List ℕ → List ℕ → List ℕ → ℕ → ℕ → ℕ → ℕ → Result ℕ Reason → Type 0
-ItemSays text work work' base n from to (Ok m) = ItemRead text work work' base n from to m
-ItemSays text work work' base n from to (Err k) = ItemBad text from to (number_of k)
+ItemSays text work work' base n start size (Ok m) = ItemRead text work work' base n start size m
+ItemSays text work work' base n start size (Err k) = ItemBad text start size (number_of k)
 
 -- What the answer to an item says.
-pub record ItemIs (text work work' : List ℕ) (base n from to : ℕ) (r : Result ℕ Reason) : Type 0 where
-  pub says : ItemSays text work work' base n from to r
+pub record ItemIs (text work work' : List ℕ) (base n : ℕ) (item : Place) (r : Result ℕ Reason) : Type 0 where
+  pub says : ItemSays text work work' base n item.start item.size r
 
 -- ---- the marks of a W line
 

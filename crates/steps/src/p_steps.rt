@@ -8,34 +8,36 @@ ghost use Rattle.steps.specs.StepFields.{StepsIs, ItemIs};
 use refusals::reason::Reason;
 use scan::names::is_star;
 use scan::orientation::Orientation;
-use scan::places::{Place, find};
+use scan::places::Place;
+use scan::split::Split;
 use tables::rows::{StepWords, put_step};
 
-// Puts the item from `from` to `to` into the table at `base`, behind its `n` steps; an empty item is skipped. Answers how many there are with it.
+// Puts an item into the table at `base`, behind its `n` steps; an empty item is skipped. Answers how many there are with it.
 pub fn read_item(
     text: &[u8],
     work: &mut [u32],
     base: usize,
     n: usize,
-    from: usize,
-    to: usize,
+    item: Place,
 ) -> Result<usize, Reason>
-    requires { (from ≤ to) × (to ≤ length text.now) × (length text.now ≤ 1048576) × (base + 3 * n + 3 ≤ length work.old) }
-    ensures { ItemIs text.now work.old work.new base n from to result }
+    requires inside { Inside text.now item }
+    requires short { length text.now ≤ 1048576 }
+    requires room { base + 3 * n + 3 ≤ length work.old }
+    ensures { ItemIs text.now work.old work.new base n item result }
 {
-    if from == to {
+    if item.size == 0 {
         return Ok(n);
     }
-    let last = to - 1;
-    let Some(mark) = Orientation::of(text[last]) else {
+    let size = item.size - 1;
+    let Some(mark) = Orientation::of(text[item.start + size]) else {
         return Err(Reason::BadStep);
     };
-    if from == last {
+    if size == 0 {
         return Err(Reason::BadStep);
     }
     let name = Place {
-        start: from,
-        size: last - from,
+        start: item.start,
+        size,
     };
     put_step(work, base, n, StepWords { name, mark });
     Ok(n + 1)
@@ -49,14 +51,9 @@ pub fn read_items(text: &[u8], work: &mut [u32], base: usize, field: Place) -> R
     requires room { base + 3 * field.size + 3 ≤ length work.old }
     ensures { StepsIs text.now work.old work.new base field.size (parse_items (split 44 field.start (part field.start field.size text.now))) result }
 {
-    let end = field.start + field.size;
-    let mut at = field.start;
     let mut n = 0;
-    // From comma to comma.
-    while at <= end {
-        let comma = find(text, b',', at, end);
-        n = read_item(text, work, base, n, at, comma)?;
-        at = comma + 1;
+    for item in Split::of(text, b',', field) {
+        n = read_item(text, work, base, n, item)?;
     }
     Ok(n)
 }

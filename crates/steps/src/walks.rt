@@ -1,5 +1,6 @@
 // The steps of a W line, put into the step table.
-ghost use Rattle.std.specs.Prelude.{◌≡◌, ◌+◌, ◌*◌, ◌≤◌, length};
+ghost use Rattle.std.specs.Prelude.{◌≡◌, ◌+◌, ◌-◌, ◌*◌, ◌≤◌, length};
+ghost use Rattle.std.specs.Iterator.{at_most};
 ghost use Rattle.gfa_spec.specs.Bytes.{part};
 ghost use Rattle.gfa_spec.specs.Reading.{is_mark, orientation_of, non_empty, walk, parse_wsteps};
 ghost use Rattle.scan.specs.Orientations.{sign_of};
@@ -33,7 +34,7 @@ pub fn orientation_at(mark: u8) -> Orientation
 }
 
 // The first mark from `from` up to `to`, or `to`.
-#[tactic(auto, using(crate::proofs::Walking::marking))]
+#[tactic(auto, using(crate::proofs::Marks::marking))]
 pub fn find_mark(text: &[u8], from: usize, to: usize) -> usize
     requires { (from ≤ to) × (to ≤ length text.now) }
     ensures { MarkIs text.now from to result }
@@ -46,6 +47,58 @@ pub fn find_mark(text: &[u8], from: usize, to: usize) -> usize
     to
 }
 
+// The steps of a walk, from place `at` of a text up to place `end`; what stands before the first mark is passed over.
+#[derive(Drop)]
+pub struct Walk<'a> {
+    pub text: &'a [u8],
+    pub at: usize,
+    pub end: usize,
+    ghost inside: { (at ≤ end) × (end ≤ length text.now) },
+}
+
+impl<'a> Walk<'a> {
+    ghost use Rattle.steps.specs.WalkSteps.{AllSteps};
+
+    // All of them.
+    pub fn of(text: &'a [u8], field: Place) -> Walk<'a>
+        requires { Inside text.now field }
+        ensures { AllSteps text.now field result }
+    {
+        let at = field.start;
+        let end = at + field.size;
+        Walk { text, at, end }
+    }
+}
+
+impl<'a> Iterator for Walk<'a> {
+    ghost use Rattle.steps.specs.WalkSteps.{StepGiven};
+
+    type Item = StepWords;
+
+    ghost next_gives = { StepGiven };
+
+    ghost remaining = { λ s. at_most (s.end - s.at) };
+
+    #[tactic(auto, using(crate::proofs::Marks::no_step))]
+    #[inline]
+    fn next(&mut self) -> Option<StepWords> {
+        let at = find_mark(self.text, self.at, self.end);
+        if at == self.end {
+            return None;
+        }
+        let start = at + 1;
+        let stop = find_mark(self.text, start, self.end);
+        self.at = stop;
+        Some(StepWords {
+            name: Place {
+                start,
+                size: stop - start,
+            },
+            mark: orientation_at(self.text[at]),
+        })
+    }
+}
+
 // Puts the steps of a walk into the table at `base`.
 #[tactic(auto, using(crate::proofs::Walking::walking))]
 pub fn read_walk(text: &[u8], work: &mut [u32], base: usize, field: Place) -> Result<usize, Reason>
@@ -55,31 +108,19 @@ pub fn read_walk(text: &[u8], work: &mut [u32], base: usize, field: Place) -> Re
     ensures { StepsIs text.now work.old work.new base field.size (non_empty (walk field.start (part field.start field.size text.now)).steps) result }
 {
     let end = field.start + field.size;
-    let mut at = find_mark(text, field.start, end);
-    if at == end {
-        return Err(Reason::NoStep);
-    }
     let mut n = 0;
-    // From mark to mark.
-    while at < end {
-        let name = at + 1;
-        let next = find_mark(text, name, end);
-        if next == name {
-            if next == end {
+    for step in Walk::of(text, field) {
+        if step.name.size == 0 {
+            if step.name.start == end {
                 return Err(Reason::EmptyLastStep);
             }
             return Err(Reason::EmptyStep);
         }
-        let step = StepWords {
-            name: Place {
-                start: name,
-                size: next - name,
-            },
-            mark: orientation_at(text[at]),
-        };
         put_step(work, base, n, step);
         n += 1;
-        at = next;
+    }
+    if n == 0 {
+        return Err(Reason::NoStep);
     }
     Ok(n)
 }
