@@ -20,7 +20,11 @@ use Rattle.gfa_spec.specs.Bytes.{one, nil, sum}
 use Rattle.gfa_spec.specs.Reading.{Entry, choose, lines, parse, parse_lines}
 use Rattle.gfa_spec.specs.Records.{segments, links, paths, collect}
 use Rattle.gfa_spec.specs.Runs.{over_paths, step_count}
-use Rattle.scan.specs.Places.{lines_at, part_at, NextLineIs}
+use Rattle.std.specs.Prelude.{None, Some}
+use Rattle.scan.specs.declared.places.Place.{Place}
+use Rattle.scan.specs.declared.lines.Lines.{Lines}
+use Rattle.scan.specs.Places.{part_at}
+use Rattle.scan.specs.TextLines.{lines_left, LineGiven}
 use Rattle.work.specs.Rows.{rows_at, EachRow, Only}
 use Rattle.tables.specs.Tables.{Few, no_rows, share, rows_of, Laid, Sound}
 use Rattle.tables.specs.Segments.{segment_at, segments_at, ids_of, SegmentRow}
@@ -32,7 +36,6 @@ use Rattle.lines.specs.Room.{segs_in, links_in, paths_in, spare_in, total}
 use Rattle.reader.specs.Outcomes.{Roomy, OutcomeIs}
 use Rattle.lines.specs.Lines.{Ready, segs_of, links_of, paths_of, NewRow, Entered, LineRead}
 use Rattle.reader.proofs.Following.{follow, follow_none, follow_snoc, follow_refused, follow_end, parse_accepted, parse_refused, ids_entry}
-use Rattle.scan.proofs.LineEnds.{no_lines_at, all_lines}
 use Rattle.lines.proofs.Room.{lines_sum, weight_text}
 use Rattle.work.proofs.Rows.{only_none, only_then, outside_less, rows_snoc, each_more, each_none}
 use Rattle.gfa_spec.proofs.Runs.{steps_append}
@@ -169,16 +172,17 @@ module _ {text work work' : List ℕ} {b : Bases} {n m : Counts} {start size : �
 
 -- ---- the state
 
--- The state before the line at `at`: the text is read as the entries of the table, and then the rest; the rows so far, with those of the lines left, are no more than the tally.
-pub record Progress (text first work : List ℕ) (b : Bases) (at : ℕ) (n : Counts) : Type 0 where
+-- The state between two lines, s having those that are left: the text is read as the entries of the table, and then the rest; the rows so far,
+-- with those of the lines left, are no more than the tally.
+pub record Progress (text first work : List ℕ) (b : Bases) (s : Lines) (n : Counts) : Type 0 where
   pub roomy : Roomy text first b
-  pub high : at ≤ length text
-  pub left_lines : n.lines + length (lines_at text at) ≡ length (lines text)
-  pub left_segs : n.segs + total segs_in (lines_at text at) ≤ total segs_in (lines text)
-  pub left_links : n.links + total links_in (lines_at text at) ≤ total links_in (lines text)
-  pub left_paths : n.paths + total paths_in (lines_at text at) ≤ total paths_in (lines text)
-  pub left_spare : share n + total spare_in (lines_at text at) ≤ total spare_in (lines text)
-  pub whole : parse text ≡ follow (entries_at text work b n.lines) (parse_lines (suc n.lines) (ids_of (segments_at text work b.segs n.segs)) (lines_at text at))
+  pub same : s.text.now ≡ text
+  pub left_lines : n.lines + length (lines_left s) ≡ length (lines text)
+  pub left_segs : n.segs + total segs_in (lines_left s) ≤ total segs_in (lines text)
+  pub left_links : n.links + total links_in (lines_left s) ≤ total links_in (lines text)
+  pub left_paths : n.paths + total paths_in (lines_left s) ≤ total paths_in (lines text)
+  pub left_spare : share n + total spare_in (lines_left s) ≤ total spare_in (lines text)
+  pub whole : parse text ≡ follow (entries_at text work b n.lines) (parse_lines (suc n.lines) (ids_of (segments_at text work b.segs n.segs)) (lines_left s))
   pub of_segments : segments (entries_at text work b n.lines) ≡ segments_at text work b.segs n.segs
   pub of_links : links (entries_at text work b n.lines) ≡ links_at text work b.links n.links
   pub of_paths : paths (entries_at text work b n.lines) ≡ paths_at text b.steps work b.paths n.paths
@@ -188,19 +192,18 @@ pub record Progress (text first work : List ℕ) (b : Bases) (at : ℕ) (n : Cou
   pub only : Only (rows_of b no_rows n) first work
 
 module _ {text first : List ℕ} {b : Bases} where
-  pub progress_start : Roomy text first b → Progress text first first b 0 no_rows
+  pub progress_start : {s : Lines} → Roomy text first b → s.text.now ≡ text → lines_left s ≡ lines text → Progress text first first b s no_rows
   unfolding parse entries_at segments_at links_at paths_at rows_at segments links paths collect ids_of step_count over_paths sum
-  progress_start h =
-      let e = all_lines text in
+  progress_start h same e =
       record {
         roomy = h;
-        high = omega arith;
+        same = same;
         left_lines = omega (arith, ap length e);
         left_segs = omega (arith, ap (total segs_in) e);
         left_links = omega (arith, ap (total links_in) e);
         left_paths = omega (arith, ap (total paths_in) e);
         left_spare = omega (arith, ap (total spare_in) e);
-        whole = rw (all_lines, follow_none);
+        whole = rw (e, follow_none);
         of_segments = refl;
         of_links = refl;
         of_paths = refl;
@@ -210,7 +213,7 @@ module _ {text first : List ℕ} {b : Bases} where
         only = only_none;
       }
 
-  module _ {work : List ℕ} {at : ℕ} {n : Counts} (p : Progress text first work b at n) where
+  module _ {work : List ℕ} {s : Lines} {n : Counts} (p : Progress text first work b s n) where
     progress_few : Few n
     progress_few =
         let y = p.roomy in
@@ -223,14 +226,13 @@ module _ {text first : List ℕ} {b : Bases} where
         let y = p.roomy in
         omega (arith, y.apart, y.between, y.beyond, y.behind, y.room, p.left_lines, p.left_segs, p.left_links, p.left_paths, p.left_spare, p.long)
 
-    pub progress_end : length text ≤ at → OutcomeIs text first work b (Ok n)
+    pub progress_end : {t : Lines} → LineGiven s None t → OutcomeIs text first work b (Ok n)
     unfolding parse_lines
-    progress_end h =
-        let e : at ≡ length text = omega (arith, p.high) in
+    progress_end g =
         record {
           says =
               record {
-                read = p.whole ∙ rw (no_lines_at text at e, follow_end);
+                read = p.whole ∙ rw (g.says.0, follow_end);
                 tables =
                     record {
                       of_segments = p.of_segments;
@@ -246,15 +248,18 @@ module _ {text first : List ℕ} {b : Bases} where
               };
         }
 
-    module _ {start size next : ℕ} (l : NextLineIs text at start size next) where
-      pub progress_ready : Ready text work b n start size
+    module _ {line : Place} {t : Lines} (l : LineGiven s (Some line) t) where
+      first_left : lines_left s ≡ part_at text line.start line.size ∷ lines_left t
+      first_left = l.says.first ∙ rw p.same refl
+
+      pub progress_ready : Ready text work b n line.start line.size
       unfolding total part_at
       progress_ready =
           let y = p.roomy in
-          let a = rw l.first at p.left_lines in
-          let c = rw l.first at p.left_spare in
+          let a = rw first_left at p.left_lines in
+          let c = rw first_left at p.left_spare in
           record {
-            inside = omega (arith, l.within, l.inside);
+            inside = rw p.same at l.says.inside;
             short = y.short;
             few = progress_few;
             apart = omega (arith, y.apart, a);
@@ -265,15 +270,15 @@ module _ {text first : List ℕ} {b : Bases} where
             rows = p.sound.segs;
           }
 
-      module _ {work' : List ℕ} {a : Result (Record × Counts) Reason} (r : LineRead text work work' b n start size a) where
+      module _ {work' : List ℕ} {a : Result (Record × Counts) Reason} (r : LineRead text work work' b n line.start line.size a) where
         pub progress_refused : {k : Reason} {q : Refusal} → a ≡ Err k → stated q ≡ on_line (number_of k) (n.lines + 1) → OutcomeIs text first work' b (Err q)
         unfolding of_parsed
         progress_refused {k} e s =
             let z = rw e at r.says in
-            let line : suc n.lines ≡ n.lines + 1 = omega arith in
-            record { says = rw (p.whole, l.first, parse_refused (suc n.lines) _ _ _ (number_of k) z.read, follow_refused, line) (ap calls.Input.refusal (sym s)) }
+            let number : suc n.lines ≡ n.lines + 1 = omega arith in
+            record { says = rw (p.whole, first_left, parse_refused (suc n.lines) _ _ _ (number_of k) z.read, follow_refused, number) (ap calls.Input.refusal (sym s)) }
 
-        pub progress_more : {held : Record} {m : Counts} → a ≡ Ok (held, m) → Progress text first work' b next m
+        pub progress_more : {held : Record} {m : Counts} → a ≡ Ok (held, m) → Progress text first work' b t m
         unfolding total part_at
         progress_more {held} {m} e =
             let z = rw e at r.says in
@@ -283,10 +288,10 @@ module _ {text first : List ℕ} {b : Bases} where
             let links' = z.links in
             let paths' = z.paths in
             let steps' = z.steps in
-            let left_lines = rw l.first at p.left_lines in
-            let left_segs : m.segs + total segs_in (lines_at text next) ≤ total segs_in (lines text) = omega (arith, z.spent.segs, rw l.first at p.left_segs) in
-            let left_links : m.links + total links_in (lines_at text next) ≤ total links_in (lines text) = omega (arith, z.spent.links, rw l.first at p.left_links) in
-            let left_paths : m.paths + total paths_in (lines_at text next) ≤ total paths_in (lines text) = omega (arith, z.spent.paths, rw l.first at p.left_paths) in
+            let left_lines = rw first_left at p.left_lines in
+            let left_segs : m.segs + total segs_in (lines_left t) ≤ total segs_in (lines text) = omega (arith, z.spent.segs, rw first_left at p.left_segs) in
+            let left_links : m.links + total links_in (lines_left t) ≤ total links_in (lines text) = omega (arith, z.spent.links, rw first_left at p.left_links) in
+            let left_paths : m.paths + total paths_in (lines_left t) ≤ total paths_in (lines text) = omega (arith, z.spent.paths, rw first_left at p.left_paths) in
             let kept =
             rows_behind b n m
             (omega (arith, y.apart, left_lines), omega (arith, y.between), omega (arith, y.beyond), omega (arith, y.behind))
@@ -297,15 +302,15 @@ module _ {text first : List ℕ} {b : Bases} where
             let new = append_sorted es (entry_of text work' b held ∷ []) in
             record {
               roomy = y;
-              high = l.inside;
+              same = ap (λ x. x.now) l.same ∙ p.same;
               left_lines = omega (arith, lines', left_lines);
               left_segs = left_segs;
               left_links = left_links;
               left_paths = left_paths;
-              left_spare = omega (arith, z.spent.spare, rw l.first at p.left_spare);
+              left_spare = omega (arith, z.spent.spare, rw first_left at p.left_spare);
               whole =
                   p.whole
-                  ∙ rw (l.first, parse_accepted (suc n.lines) _ _ _ _ z.read, follow_snoc, g.entries, lines', g.of_segments, ids_entry);
+                  ∙ rw (first_left, parse_accepted (suc n.lines) _ _ _ _ z.read, follow_snoc, g.entries, lines', g.of_segments, ids_entry);
               of_segments = rw (g.entries, new.of_segments, p.of_segments) (sym g.of_segments);
               of_links = rw (g.entries, new.of_links, p.of_links) (sym g.of_links);
               of_paths = rw (g.entries, new.of_paths, p.of_paths) (sym g.of_paths);
@@ -343,3 +348,6 @@ module _ {text first : List ℕ} {b : Bases} where
                     ),
                   ));
             }
+
+-- what the reading pass ends by
+pub ruleset progress = (progress_refused, progress_end)

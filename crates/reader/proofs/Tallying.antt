@@ -4,18 +4,21 @@ use native.Mathlib.Nat.{zero-add}
 use native.Mathlib.Omega.{arith}
 use mathlib.Core.List.{List, [], ◌∷◌}
 use mathlib.Core.Logic.{◌⊎◌, inl, inr}
-use mathlib.Core.Path.{◌≡◌, refl, ◌∙◌}
+use mathlib.Core.Path.{◌≡◌, refl, ap, ◌∙◌}
 use lib.ListN.{length, get_or}
 use borrow.Author.Tests.{ne_eqb}
 use Rattle.tables.specs.declared.tables.Bases.{Bases}
 use Rattle.tables.specs.declared.tables.Counts.{Counts}
 use Rattle.gfa_spec.specs.Reading as reading
-use Rattle.scan.specs.Places.{lines_at, part_at, NextLineIs}
+use Rattle.std.specs.Prelude.{None, Some}
+use Rattle.scan.specs.declared.places.Place.{Place}
+use Rattle.scan.specs.declared.lines.Lines.{Lines}
+use Rattle.scan.specs.Places.{Inside, part_at}
+use Rattle.scan.specs.TextLines.{lines_left, LineGiven}
 use Rattle.reader.specs.Outcomes.{Roomy}
 use Rattle.lines.specs.Room.{starting, segs_in, links_in, paths_in, total, TallyIs, LineTally}
 use Rattle.gfa_spec.specs.Bytes.{part}
 use Rattle.tables.specs.Tables.{Few, no_rows, one_more, bases_for}
-use Rattle.scan.proofs.LineEnds.{no_lines_at, all_lines}
 use Rattle.gfa_spec.proofs.Parts.{length_part}
 use Rattle.lines.proofs.Room.{lines_sum, weight_text, two_bytes, tables_fit}
 
@@ -69,49 +72,54 @@ module _ {text : List ℕ} {n m : Counts} {start size : ℕ} (h : start + size �
 
 -- ---- all lines
 
--- The state before the line at `at`: the counts so far, with the tally of the lines left, are the tally of the text.
-pub record Counting (text : List ℕ) (at : ℕ) (n : Counts) : Type 0 where
-  pub high : at ≤ length text
-  pub lines : n.lines + length (lines_at text at) ≡ length (reading.lines text)
-  pub segs : n.segs + total segs_in (lines_at text at) ≡ total segs_in (reading.lines text)
-  pub links : n.links + total links_in (lines_at text at) ≡ total links_in (reading.lines text)
-  pub paths : n.paths + total paths_in (lines_at text at) ≡ total paths_in (reading.lines text)
+-- The state between two lines, s having those that are left: the counts so far, with the tally of the lines left, are the tally of the text.
+pub record Counting (text : List ℕ) (s : Lines) (n : Counts) : Type 0 where
+  pub same : s.text.now ≡ text
+  pub lines : n.lines + length (lines_left s) ≡ length (reading.lines text)
+  pub segs : n.segs + total segs_in (lines_left s) ≡ total segs_in (reading.lines text)
+  pub links : n.links + total links_in (lines_left s) ≡ total links_in (reading.lines text)
+  pub paths : n.paths + total paths_in (lines_left s) ≡ total paths_in (reading.lines text)
   pub steps : n.steps ≡ 0
 
-pub counting_start : (text : List ℕ) → Counting text 0 no_rows
-counting_start text =
-    let e = all_lines text in
-    record { high = omega arith; lines = rw e (zero-add _); segs = rw e (zero-add _); links = rw e (zero-add _); paths = rw e (zero-add _); steps = refl }
+pub counting_start : {text : List ℕ} {s : Lines} → s.text.now ≡ text → lines_left s ≡ reading.lines text → Counting text s no_rows
+counting_start h e = record { same = h; lines = rw e (zero-add _); segs = rw e (zero-add _); links = rw e (zero-add _); paths = rw e (zero-add _); steps = refl }
 
-module _ {text : List ℕ} {at : ℕ} {n : Counts} (s : Counting text at n) where
+module _ {text : List ℕ} {s : Lines} {n : Counts} (c : Counting text s n) where
   -- no count is large
   pub counting_few : length text ≤ 1048576 → Few n
   counting_few h = let f = lines_sum (reading.lines text) in let w = weight_text text in omega arith
 
-  pub counting_more : {start size next : ℕ} {m : Counts} → NextLineIs text at start size next → LineTally text start size n m → Counting text next m
-  unfolding total part_at
-  counting_more l t =
-      let f = l.first in
-      rw t.is
-      (record {
-        high = l.inside;
-        lines = omega (arith, rw f at s.lines);
-        segs = omega (arith, rw f at s.segs);
-        links = omega (arith, rw f at s.links);
-        paths = omega (arith, rw f at s.paths);
-        steps = omega (arith, s.steps);
-      })
+  module _ {line : Place} {t : Lines} (g : LineGiven s (Some line) t) where
+    pub counting_inside : Inside text line
+    counting_inside = rw c.same at g.says.inside
 
-  pub counting_end : length text ≤ at → TallyIs (reading.lines text) n
+    pub counting_more : {m : Counts} → LineTally text line.start line.size n m → Counting text t m
+    unfolding total part_at
+    counting_more l =
+        let f : lines_left s ≡ part_at text line.start line.size ∷ lines_left t = g.says.first ∙ rw c.same refl in
+        rw l.is
+        (record {
+          same = ap (λ x. x.now) g.same ∙ c.same;
+          lines = omega (arith, rw f at c.lines);
+          segs = omega (arith, rw f at c.segs);
+          links = omega (arith, rw f at c.links);
+          paths = omega (arith, rw f at c.paths);
+          steps = omega (arith, c.steps);
+        })
+
+  pub counting_end : {t : Lines} → LineGiven s None t → TallyIs (reading.lines text) n
   unfolding total
-  counting_end h =
-      let e = no_lines_at text at (omega arith) in
+  counting_end g =
+      let e = g.says.0 in
       record {
-        lines = omega (arith, rw e at s.lines);
-        segs = omega (arith, rw e at s.segs);
-        links = omega (arith, rw e at s.links);
-        paths = omega (arith, rw e at s.paths);
+        lines = omega (arith, rw e at c.lines);
+        segs = omega (arith, rw e at c.segs);
+        links = omega (arith, rw e at c.links);
+        paths = omega (arith, rw e at c.paths);
       }
+
+-- what the counting pass begins by, and asks of a line
+pub ruleset counting = (counting_start, counting_inside)
 
 -- the tables of a text's tally
 module _ (text : List ℕ) {t : Counts} (e : TallyIs (reading.lines text) t) (h : length text ≤ 1048576) where

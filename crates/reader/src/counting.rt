@@ -5,7 +5,8 @@ ghost use Rattle.scan.specs.Places.{Inside};
 ghost use Rattle.tables.specs.Tables.{Few};
 ghost use Rattle.lines.specs.Room.{LineTally, TallyIs};
 
-use scan::places::{Place, next_line};
+use scan::lines::Lines;
+use scan::places::Place;
 use tables::tables::{Counts, one_more};
 
 // The counts with those of a line.
@@ -26,11 +27,11 @@ pub fn count_line(text: &[u8], n: Counts, line: Place) -> Counts
 }
 
 // The tally of a text.
+#[tactic(auto, using(crate::proofs::Tallying::counting))]
 pub fn count_text(text: &[u8]) -> Counts
     requires { length text.now ≤ 1048576 }
     ensures { TallyIs (lines text.now) result }
 {
-    let mut at = 0;
     let mut n = Counts {
         lines: 0,
         segs: 0,
@@ -38,11 +39,8 @@ pub fn count_text(text: &[u8]) -> Counts
         paths: 0,
         steps: 0,
     };
-    // From line to line.
-    while at < text.len() {
-        let line = next_line(text, at);
-        n = count_line(text, n, line.place);
-        at = line.next;
+    for line in Lines::of(text) {
+        n = count_line(text, n, line);
     }
     n
 }

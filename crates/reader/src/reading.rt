@@ -8,7 +8,8 @@ use lines::segments::add_segment;
 use lines::sort::{Sort, sort_of};
 use refusals::reason::Reason;
 use refusals::refusal::Refusal;
-use scan::places::{Place, next_line};
+use scan::lines::Lines;
+use scan::places::Place;
 use tables::entry::{RawLine, Record};
 use tables::rows::put_line;
 use tables::tables::{Bases, Counts, one_more};
@@ -57,11 +58,11 @@ pub fn read_line(
 }
 
 // Reads every line of a text into the tables at `b`; answers how many rows they have.
+#[tactic(auto, using(crate::proofs::Progress::progress))]
 pub fn read_lines(text: &[u8], work: &mut [u32], b: Bases) -> Result<Counts, Refusal>
     requires { Roomy text.now work.old b }
     ensures { OutcomeIs text.now work.old work.new b result }
 {
-    let mut at = 0;
     let mut n = Counts {
         lines: 0,
         segs: 0,
@@ -69,14 +70,11 @@ pub fn read_lines(text: &[u8], work: &mut [u32], b: Bases) -> Result<Counts, Ref
         paths: 0,
         steps: 0,
     };
-    // From line to line.
-    while at < text.len() {
-        let line = next_line(text, at);
-        match read_line(text, work, b, n, line.place) {
+    for line in Lines::of(text) {
+        match read_line(text, work, b, n, line) {
             Err(reason) => return Err(Refusal::on_line(reason, n.lines + 1)),
             Ok((_, m)) => n = m,
         }
-        at = line.next;
     }
     Ok(n)
 }

@@ -17,7 +17,7 @@ impl<'a> Lines<'a> {
     ghost use Rattle.scan.specs.TextLines.{lines_left};
 
     // All of them.
-    #[tactic(auto, unfolding(gfa_spec::specs::Reading::lines, crate::specs::Places::lines_at))]
+    #[tactic(auto, using(crate::proofs::LineEnds::all_lines))]
     pub fn of(text: &'a [u8]) -> Lines<'a>
         ensures same { result.text.now ≡ text.now }
         ensures left { lines_left result ≡ lines text.now }

@@ -1,18 +1,12 @@
 -- `reader::reading::read_lines` meets its contract. Assumes nothing.
-use Rattle.reader.proofs.Progress.{progress_start, progress_ready, progress_refused, progress_more, progress_end}
+use Rattle.reader.proofs.Progress.{progress_start, progress_ready, progress_more}
 use Rattle.reader.proofs.reading.read_lines.Goals as goal
 
-pub loop-at-init : goal.loop-at-init
-loop-at-init c = search progress_start
+pub loop-line-init : goal.loop-line-init
+loop-line-init c = rw c.into_iter-line-iterator.ensures.into_iter_gives (progress_start c.requires c.of-line-items.ensures.same c.of-line-items.ensures.left)
 
 pub read_line-requires : goal.read_line-requires
-read_line-requires c = search progress_ready
+read_line-requires c = progress_ready c.loop-line.invariant c.in-Some.ensures.steps
 
-pub returns-in-Err : goal.returns-in-Err
-returns-in-Err c = search progress_refused
-
-pub loop-at-preserved : goal.loop-at-preserved
-loop-at-preserved c = search progress_more
-
-pub returns : goal.returns
-returns c = search progress_end
+pub loop-line-preserved : goal.loop-line-preserved
+loop-line-preserved c = progress_more c.loop-line.invariant c.in-Some.ensures.steps c.read_line.ensures c.in-Ok.is
