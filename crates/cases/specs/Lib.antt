@@ -1,2 +1,3 @@
 -- What the contracts on lists of cases say.
 pub mod Cases
+pub mod Lists

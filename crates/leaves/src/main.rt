@@ -14,7 +14,7 @@ use crate::writing::writing;
 use cases::agreement::agrees;
 use cases::buffers::fill_bytes;
 use cases::headers::ROOM;
-use cases::lists::{Case, case_at, skip};
+use cases::lists::{Case, Cases};
 use cases::tallies::{Tally, counted, print};
 
 // Calls the leaf that a case names, on a buffer that holds a pattern: are its answer and the buffer as expected?
@@ -34,17 +34,13 @@ fn case_agrees(list: &[u8], c: Case, row: &[usize; 24], out: &mut [u8]) -> bool
 fn run(list: &[u8], out: &mut [u8]) -> Tally
     ensures { result.differ ≤ result.cases }
 {
-    let mut row = [0usize; 24];
     let mut t = Tally {
         cases: 0,
         differ: 0,
     };
-    let mut at = skip(list, 0);
-    // By cases: each says where the next one starts.
-    while at < list.len() {
-        let c = case_at(list, at, &mut row);
-        t = counted(t, list, at, c.end, case_agrees(list, c, &row, out));
-        at = c.next;
+    for (c, row) in Cases::of(list) {
+        let agrees = case_agrees(list, c, &row, out);
+        t = counted(t, list, c.start, c.end, agrees);
     }
     t
 }

@@ -10,7 +10,7 @@ mod counters;
 
 use crate::calls::case_agrees;
 use cases::buffers::{list_buffer, work_buffer};
-use cases::lists::{Case, case_at, skip};
+use cases::lists::{Case, Cases};
 use cases::tallies::{Tally, counted, print};
 
 // Replays a case, if it is one of the service.
@@ -36,17 +36,12 @@ fn replay_case(
 
 // Replays the cases of a service, named by its first letter, in their order, and prints what became of them.
 fn replay(service: u8, name: &[u8], list: &[u8], out: &mut [u8], work: &mut [u32]) {
-    let mut row = [0usize; 24];
     let mut t = Tally {
         cases: 0,
         differ: 0,
     };
-    let mut at = skip(list, 0);
-    // By cases: each says where the next one starts.
-    while at < list.len() {
-        let c = case_at(list, at, &mut row);
+    for (c, row) in Cases::of(list) {
         t = replay_case(service, list, c, &row, out, work, t);
-        at = c.next;
     }
     print(name, t);
 }

@@ -1,10 +1,7 @@
 -- `replay::replay` is safe and ends. The invariant: there are no more cases than bytes passed. Assumes nothing.
-use Prim.Native.Nat.{◌≤◌, ◌-◌}
-use lib.ListN.{length}
+use Prim.Native.Nat.{◌≤◌}
+use mathlib.Core.Path.{◌≡◌}
 use Rattle.replay.proofs.replay.Given as goal
 
-abbrev pub invariant-loop-at : goal.invariant-loop-at
-invariant-loop-at l = (l.t.cases ≤ l.at) × (l.t.differ ≤ l.t.cases) × (l.at ≤ length l.list)
-
-abbrev pub decreases-loop-at : goal.decreases-loop-at
-decreases-loop-at l = length l.list - l.at
+abbrev pub invariant-loop-c : goal.invariant-loop-c
+invariant-loop-c l = (l.c-iterator.list.now ≡ l.list) × (l.t.cases ≤ l.c-iterator.at) × (l.t.differ ≤ l.t.cases)

@@ -1,10 +1,8 @@
--- `cases::lists::skip` meets its contract. The invariant: the place is within the list, and it moves on. Assumes nothing.
-use Prim.Native.Nat.{◌≤◌, ◌-◌}
+-- `cases::lists::skip` meets its contract. The invariant: the lines left stand behind the place, and go up to the list's end. Assumes nothing.
+use Prim.Native.Nat.{◌≤◌}
+use mathlib.Core.Path.{◌≡◌}
 use lib.ListN.{length}
 use Rattle.cases.proofs.lists.skip.Given as goal
 
-abbrev pub invariant-loop-at : goal.invariant-loop-at
-invariant-loop-at l = (l.from ≤ l.at) × (l.at ≤ length l.list)
-
-abbrev pub decreases-loop-at : goal.decreases-loop-at
-decreases-loop-at l = length l.list - l.at
+abbrev pub invariant-loop-line : goal.invariant-loop-line
+invariant-loop-line l = (l.from ≤ l.line-iterator.at) × (l.line-iterator.end ≡ length l.list)
