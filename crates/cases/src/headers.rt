@@ -1,9 +1,11 @@
 // The numbers of a case: its header's words, read and compared.
 ghost use Rattle.std.specs.Prelude.{◌≡◌, ◌+◌, ◌≤◌, min, length};
+ghost use Rattle.scan.specs.Places.{Inside};
 ghost use Rattle.cases.specs.Cases.{Tells, Skipped, SameNumbers};
 
 use scan::numbers::number_of;
-use scan::places::find;
+use scan::places::Place;
+use scan::split::Split;
 
 // The words of a header, of which 24 are read, by their number, counted from 0: the call's argument, the length of its output buffer, the first of the four numbers that
 // it answers, the lengths of text and output, and the first of those that only some calls have.
@@ -31,16 +33,15 @@ pub fn forward(at: usize, n: usize, end: usize) -> usize
     at.saturating_add(n).min(end)
 }
 
-// Reads the numbers of the header that stands from `start` up to `end`, its words being parted by blanks.
-pub fn read_header(list: &[u8], start: usize, end: usize, row: &mut [usize; 24])
-    requires { (start ≤ end) × (end ≤ length list.now) }
+// The numbers of a header, its words being parted by blanks.
+pub fn read_header(list: &[u8], header: Place) -> [usize; 24]
+    requires { Inside list.now header }
 {
-    let mut at = start;
-    for word in row {
-        let stop = find(list, b' ', at, end);
-        *word = number_of(&list[at..stop]).map_or(NONE, |n| n as usize);
-        at = forward(stop, 1, end);
+    let mut row = [NONE; 24];
+    for (word, part) in row.iter_mut().zip(Split::of(list, b' ', header)) {
+        *word = number_of(part.of(list)).map_or(NONE, |n| n as usize);
     }
+    row
 }
 
 // Are the numbers of the row from word `from` on these?

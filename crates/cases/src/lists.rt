@@ -47,8 +47,11 @@ pub fn case_at(list: &[u8], start: usize) -> (Case, [usize; 24])
     let size = list.len();
     let end = find(list, b'\n', start, size);
     let blank = find(list, b' ', start, end);
-    let mut row = [0; 24];
-    read_header(list, start, end, &mut row);
+    let header = Place {
+        start,
+        size: end - start,
+    };
+    let row = read_header(list, header);
     let text = forward(end, 1, size);
     let stop = forward(text, row[TEXT], size);
     let output = forward(stop, 1, size);
