@@ -19,7 +19,7 @@ use Rattle.normalize_spec.specs.Folding.{AllTransformed, is_folded_run, transfor
 use Rattle.normalize_spec.specs.Counting.{folded_runs}
 use Rattle.normalize_spec.proofs.Marks.{kept_run}
 use Rattle.normalize_spec.proofs.Onward.{before_paths, paths_start, paths_end}
-use Rattle.work.specs.Rows.{rows_at, Cleared}
+use Rattle.work.specs.Rows.{rows_at, number_in, Cleared}
 use Rattle.work.proofs.Rows.{each_none}
 use Rattle.tables.specs.declared.tables.Bases.{Bases}
 use Rattle.tables.specs.declared.tables.Counts.{Counts}
@@ -33,7 +33,7 @@ use Rattle.normalize_tables.specs.declared.layout.Layout.{Layout}
 use Rattle.normalize_tables.specs.declared.layout.Made.{Made}
 use Rattle.normalize_tables.specs.Layout.{Source}
 use Rattle.normalize_tables.specs.Marks.{Marked}
-use Rattle.normalize_tables.specs.News.{number_in, first_number, news_at, names_at, new_paths_at}
+use Rattle.normalize_tables.specs.News.{first_number, news_at, names_at, new_paths_at}
 use Rattle.normalize_tables.specs.NewByNumber.{new_paths_to, KeptTo}
 use Rattle.normalize_tables.specs.Rewritten.{NewRows, Folded}
 use Rattle.new_segs.specs.Makes.{next_at, made_at, Making}

@@ -14,7 +14,7 @@ use Rattle.gfa_spec.specs.Runs.{Run}
 use Rattle.normalize_spec.specs.Folding.{new_segment, make_segment}
 use Rattle.std.specs.Prelude.{Option, Some}
 use Rattle.tables.specs.declared.entry.SegmentNo.{SegmentNo}
-use Rattle.work.specs.Rows.{word_of}
+use Rattle.work.specs.Rows.{word_of, number_in}
 use Rattle.work.proofs.Rows.{each_more}
 use Rattle.tables.specs.declared.tables.Bases.{Bases}
 use Rattle.tables.specs.declared.tables.Counts.{Counts}
@@ -22,7 +22,7 @@ use Rattle.tables.specs.ByNumber.{segment_no, segments_of}
 use Rattle.tables.proofs.ByNumber.{TablesKept, segment_stands}
 use Rattle.normalize_tables.specs.declared.layout.Layout.{Layout}
 use Rattle.normalize_tables.specs.declared.rows.NewSegmentWords.{NewSegmentWords}
-use Rattle.normalize_tables.specs.News.{number_in, segment_words, new_id_of, new_at, names_at, Agree, Suffixed}
+use Rattle.normalize_tables.specs.News.{segment_words, new_id_of, new_at, names_at, Agree, Suffixed}
 use Rattle.normalize_tables.specs.NewByNumber.{NewSegmentPut, KeptTo, SegmentsKept, PathsKept}
 use Rattle.normalize_tables.proofs.Nodes.{names_length, news_more, names_more}
 use Rattle.normalize_tables.proofs.NewByNumber.{segments_words, steps_words, paths_words, unit_kept, count_kept, suffix_kept, before_kept}

@@ -9,12 +9,12 @@ use Rattle.tables.specs.declared.tables.Bases.{Bases}
 use Rattle.tables.specs.declared.tables.Counts.{Counts}
 use Rattle.normalize_tables.specs.declared.layout.Layout.{Layout}
 use Rattle.normalize_tables.specs.declared.rows.NewSegmentWords.{NewSegmentWords}
-use Rattle.normalize_tables.specs.News.{number_in, segment_words}
+use Rattle.normalize_tables.specs.News.{segment_words}
 use Rattle.normalize_tables.specs.NewByNumber.{NewSegmentIs, SegmentsKept}
 use Rattle.normalize_tables.proofs.NewByNumber.{unit_kept, before_kept}
 use Rattle.std.specs.Prelude.{Option, None, Some}
 use Rattle.gfa_spec.proofs.Options.{None-ne-Some}
-use Rattle.work.specs.Rows.{word_of}
+use Rattle.work.specs.Rows.{word_of, number_in}
 use Rattle.normalize_tables.proofs.Words.{word_some, word_below}
 use Rattle.new_segs.specs.Chains.{LastOn, Chained, MadeIs}
 use Rattle.new_segs.specs.Makes.{Making}

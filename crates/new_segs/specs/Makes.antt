@@ -5,14 +5,14 @@ use Rattle.gfa_spec.specs.Decimal.{largest64}
 use Rattle.gfa_spec.specs.Reading.{Segment}
 use Rattle.gfa_spec.specs.Runs.{Run}
 use Rattle.normalize_spec.specs.Folding.{Made, none_made, next_after, usable, new_id, new_segment, make_segment}
-use Rattle.work.specs.Rows.{word_of}
+use Rattle.work.specs.Rows.{word_of, number_in}
 use Rattle.tables.specs.declared.tables.Bases.{Bases}
 use Rattle.tables.specs.declared.tables.Counts.{Counts}
 use Rattle.tables.specs.ByNumber.{segment_no, segments_of}
 use Rattle.normalize_tables.specs.declared.layout.Layout.{Layout}
 use Rattle.normalize_tables.specs.declared.rows.NewSegmentWords.{NewSegmentWords}
 use Rattle.normalize_tables.specs.Layout.{Source}
-use Rattle.normalize_tables.specs.News.{number_in, segment_words, first_number, new_id_of, new_at, news_at, names_at, Agree, Suffixed}
+use Rattle.normalize_tables.specs.News.{segment_words, first_number, new_id_of, new_at, news_at, names_at, Agree, Suffixed}
 use Rattle.normalize_tables.specs.NewByNumber.{SegmentRoom, SegmentRows, KeptTo, StepsKept, PathsKept}
 use Rattle.new_ids.specs.Ids.{SuffixIs}
 use Rattle.new_segs.specs.Chains.{LastOn, Chained, MadeIs}

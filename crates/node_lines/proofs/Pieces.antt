@@ -1,5 +1,5 @@
 -- Pieces of a node's lines. Assumes nothing.
-use Prim.Native.Nat.{ℕ, zero, suc, ◌-◌, ◌/◌, ◌%◌, ◌≤◌, ◌<◌}
+use Prim.Native.Nat.{ℕ, zero, suc, ◌/◌, ◌%◌, ◌≤◌, ◌<◌}
 use native.Mathlib.Decide.{ℕ_discrete}
 use native.Mathlib.Omega.{arith}
 use mathlib.Core.Bool.{Bool, true, cond, ◌&&◌}
@@ -17,6 +17,7 @@ use Rattle.scan.specs.declared.places.Place.{Place}
 use Rattle.scan.specs.Places.{part_at, FieldIs, bytes_in}
 use Rattle.scan.proofs.Fields.{found_at, few_fields}
 use Rattle.tables.specs.declared.entry.SegmentNo.{SegmentNo}
+use Rattle.tables.specs.declared.entry.PathNo.{PathNo}
 use Rattle.tables.specs.declared.tables.Bases.{Bases}
 use Rattle.tables.specs.declared.tables.Counts.{Counts}
 use Rattle.tables.specs.declared.rows.PathWords.{PathWords}
@@ -111,22 +112,22 @@ kind_gone P fs h = rw (ne_eqb (length fs) 3 (λ z. omega arith), append-nil) (fi
 kind_gone W fs h = field_gone fs 3 h
 
 -- no path, or one whose name is a field of its line, or is not there
-module _ (text work : List ℕ) (b : Bases) (number : ℕ) where
-  pub path_none : number ≡ 0 → [] ≡ path_from text work b number
+module _ (text work : List ℕ) (b : Bases) (number : Option PathNo) where
+  pub path_none : number ≡ None → [] ≡ path_from text work b number
   unfolding path_from
   path_none e = rw e
 
-  module _ {n : Counts} {column : ℕ} {p : PathWords} {r : Option Place} (some : number ≡ 0 → ⊥) (is : PathIs text work b n (number - 1) p)
-      (k : column ≡ name_column (kind_in p.kind)) (g : FieldIs text p.line column r) where
+  module _ {n : Counts} {k : PathNo} {column : ℕ} {p : PathWords} {r : Option Place} (some : number ≡ Some k) (is : PathIs text work b n k.0 p)
+      (c : column ≡ name_column (kind_in p.kind)) (g : FieldIs text p.line column r) where
     f : FieldIs text p.line (name_column (kind_in p.kind)) r
-    f = rw k at g
+    f = rw c at g
 
     its_fields : List Part
     its_fields = fields (part_at text p.line.start p.line.size)
 
     named : path_from text work b number ≡ nth (name_column (kind_in p.kind)) (path_fields (kind_in p.kind) its_fields) []
     unfolding path_from its_fields
-    named = rw (ne_eqb number 0 some, is.path) (name_of (kind_in p.kind) its_fields (steps_from text work b p.first p.end))
+    named = rw (some, is.path) (name_of (kind_in p.kind) its_fields (steps_from text work b p.first p.end))
 
     pub path_there : {q : Place} {s : List ℕ} → r ≡ Some q → s ≡ bytes_in text q → s ≡ path_from text work b number
     unfolding its_fields part_at

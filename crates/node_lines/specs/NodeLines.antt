@@ -1,10 +1,11 @@
 -- A node as the report states it, by its row, and the pieces of its lines.
-use Rattle.std.specs.Prelude.{ℕ, ◌+◌, ◌-◌, ◌/◌, ◌%◌, ◌≤◌, ◌<◌, Bool, cond, List, [], ◌∷◌, ◌++◌, map, eqb, length, get_or}
+use Rattle.std.specs.Prelude.{ℕ, ◌+◌, ◌/◌, ◌%◌, ◌≤◌, ◌<◌, Bool, cond, List, [], ◌∷◌, ◌++◌, map, eqb, length, get_or}
 use Rattle.std.specs.Prelude.{Option, Some, None}
 use Rattle.gfa_spec.specs.Bytes.{bytes}
 use Rattle.gfa_spec.specs.Sequences.{sequence_preview}
 use Rattle.gfa_spec.specs.Reading.{Kind, P, W}
 use Rattle.tables.specs.declared.entry.SegmentNo.{SegmentNo}
+use Rattle.tables.specs.declared.entry.PathNo.{PathNo}
 use Rattle.tables.specs.declared.tables.Bases.{Bases}
 use Rattle.tables.specs.declared.tables.Counts.{Counts}
 use Rattle.scan.specs.Places.{bytes_in, Inside}
@@ -13,6 +14,7 @@ use Rattle.tables.specs.Segments.{FoundBelow}
 use Rattle.report_spec.specs.Nodes.{Node, path_name}
 use Rattle.nodes.specs.declared.counters.Counter.{Counter}
 use Rattle.nodes.specs.declared.nodes.NodeWords.{NodeWords}
+use Rattle.nodes.specs.Counters.{PathBelow}
 use Rattle.nodes.specs.Table.{nodes_end, node_no, counter_no}
 use Rattle.ranks.specs.Ranking.{order_from, nums_at}
 
@@ -37,9 +39,10 @@ unfoldable pub preview_from : List ℕ → List ℕ → Bases → Option Segment
 preview_from text work b None = []
 preview_from text work b (Some k) = sequence_preview (segment_no text work b k.0).sequence
 
--- the name of the path whose number plus one is given, nothing for 0
-unfoldable pub path_from : List ℕ → List ℕ → Bases → ℕ → List ℕ
-path_from text work b number = cond (eqb number 0) [] (path_name (path_no text work b (number - 1)))
+-- the name of a path, nothing where there is none
+unfoldable pub path_from : List ℕ → List ℕ → Bases → Option PathNo → List ℕ
+path_from text work b None = []
+path_from text work b (Some k) = path_name (path_no text work b k.0)
 
 -- the field that holds a path's name, counted from 0
 unfoldable pub name_column : Kind → ℕ
@@ -75,14 +78,14 @@ pub record Printable (text work : List ℕ) (b : Bases) (n : Counts) (k : ℕ) :
   pub name : Inside text (node_no work (tables_end b n) k).name
   pub segment : FoundBelow n.segs (node_no work (tables_end b n) k).number
   pub bits : (node_no work (tables_end b n) k).bits < 16
-  pub path : (counter_no work (tables_end b n) k).first ≤ n.paths
+  pub path : PathBelow n.paths (counter_no work (tables_end b n) k).first
 
 -- What is asked before a node's row is written: its name is a part of the text, and its segment and its path are there.
 pub record RowReady (text : List ℕ) (n : Counts) (w : NodeWords) (c : Counter) : Type 0 where
   pub name : Inside text w.name
   pub segment : FoundBelow n.segs w.number
   pub bits : w.bits < 16
-  pub path : c.first ≤ n.paths
+  pub path : PathBelow n.paths c.first
 
 -- the nodes whose numbers stand from the word `nums` on
 unfoldable pub listed : List ℕ → List ℕ → Bases → Counts → ℕ → ℕ → List Node

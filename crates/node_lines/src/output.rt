@@ -1,5 +1,5 @@
 // The lines of a node.
-ghost use Rattle.std.specs.Prelude.{◌≡◌, [], ◌∷◌, map, ◌≤◌, ◌<◌};
+ghost use Rattle.std.specs.Prelude.{◌≡◌, [], ◌∷◌, map, ◌<◌};
 ghost use Rattle.gfa_spec.specs.Bytes.{bytes, join, join_with, ended, end_line};
 ghost use Rattle.scan.specs.Orientations.{sign_of};
 ghost use Rattle.scan.specs.Places.{bytes_in, Inside};
@@ -7,6 +7,7 @@ ghost use Rattle.tables.specs.Paths.{kind_in};
 ghost use Rattle.tables.specs.Segments.{FoundBelow};
 ghost use Rattle.writers.specs.Writers.{Puts};
 ghost use Rattle.report_spec.specs.Lines.{line, number as number_line, node_lines};
+ghost use Rattle.nodes.specs.Counters.{PathBelow};
 ghost use Rattle.nodes.specs.Table.{weight_of};
 ghost use Rattle.ranks.specs.Ranking.{order_from};
 ghost use Rattle.node_lines.specs.NodeLines.{pairs_from, pair_piece, preview_from, path_from, name_column, node_from, node_in, Printable, RowReady, listed, Listed};
@@ -112,26 +113,26 @@ fn name_column(kind: PathKind) -> usize
     }
 }
 
-// The name of the path whose number plus one is given; nothing for 0, nor where the path's line has no such field.
+// The name of a path; nothing where there is none, nor where its line has no such field.
 #[tactic(auto, using(crate::proofs::Pieces::path_none, scan::proofs::Fields::found_at))]
-fn path_name<'a>(graph: &Graph<'a>, number: usize) -> &'a [u8]
-    requires { number ≤ graph.now.n.paths }
+fn path_name<'a>(graph: &Graph<'a>, number: Option<PathNo>) -> &'a [u8]
+    requires { PathBelow graph.now.n.paths number }
     ensures { result.now ≡ path_from graph.now.text.now graph.now.work.now graph.now.b number }
 {
-    if number == 0 {
+    let Some(no) = number else {
         return b"";
-    }
-    let path = graph.path(PathNo((number - 1) as u32));
+    };
+    let path = graph.path(no);
     match field_at(graph.text, path.line, name_column(path.kind)) {
         Some(name) => name.of(graph.text),
         None => b"",
     }
 }
 
-// The name of the path whose number plus one is given, as a line.
+// The name of a path, where there is one, as a line.
 #[tactic(auto, unfolding(gfa_spec::specs::Bytes::bytes, report_spec::specs::Lines::line))]
-pub fn put_path_line(w: &mut Writer, graph: &Graph, number: usize)
-    requires { number ≤ graph.now.n.paths }
+pub fn put_path_line(w: &mut Writer, graph: &Graph, number: Option<PathNo>)
+    requires { PathBelow graph.now.n.paths number }
     ensures { Puts w.old (end_line (line (bytes "max_repeat_run_path") (path_from graph.now.text.now graph.now.work.now graph.now.b number))) w.new }
 {
     put_value_line(w, b"max_repeat_run_path", path_name(graph, number));

@@ -4,7 +4,7 @@ use native.Mathlib.Omega.{arith}
 use mathlib.Core.Bool.{Bool, true, false, cond, ◌&&◌}
 use mathlib.Core.List.{List, [], ◌∷◌}
 use mathlib.Core.Path.{◌≡◌, refl, ◌∙◌}
-use lib.Dec.{eqb, leb, ltb}
+use lib.Dec.{leb, ltb}
 use lib.ListN.{length}
 use borrow.Author.Tests.{ltb-true, ltb-false, lt-ltb, le-ltb, eq-eqb}
 use Rattle.gfa_spec.specs.Bytes.{any, count, keep}
@@ -13,8 +13,10 @@ use Rattle.gfa_spec.specs.Runs.{Run, runs, extend, is_repeat, pairs, bit, same_s
 use Rattle.gfa_spec.proofs.Tests.{by_test}
 use Rattle.gfa_spec.proofs.Runs.{same_name, extend_first}
 use Rattle.report_spec.specs.Nodes.{on, longest as longest_of}
+use Rattle.std.specs.Prelude.{Option, Some}
+use Rattle.tables.specs.declared.entry.PathNo.{PathNo}
 use Rattle.nodes.specs.declared.counters.Counter.{Counter}
-use Rattle.nodes.specs.Counters.{is_longer, counted_of, goes_on, finish}
+use Rattle.nodes.specs.Counters.{is_path, PathBelow, is_longer, counted_of, goes_on, finish}
 
 -- the same, whatever the test says
 either : {A : Type 0} {a : A} (t : Bool) → cond t a a ≡ a
@@ -50,13 +52,13 @@ module _ (node : List ℕ) where
   -- The counters c', with these runs of a path, are the counters c and what the runs add.
   pub record Finished (path : ℕ) (c c' : Counter) (rs : List Run) : Type 0 where
     pub visits : c'.visits ≡ c.visits + steps_on rs
-    pub paths : c'.paths ≡ cond (eqb c.last (path + 1)) c.paths (c.paths + bit (any (λ r. on node r.step) rs))
-    pub last : c.last ≤ path + 1 → c'.last ≤ path + 1
+    pub paths : c'.paths ≡ cond (is_path c.last path) c.paths (c.paths + bit (any (λ r. on node r.step) rs))
+    pub last : PathBelow (path + 1) c.last → PathBelow (path + 1) c'.last
     pub adjacent : c'.adjacent ≡ c.adjacent + equal_on rs + turns_on rs
     pub equal : c'.equal ≡ c.equal + equal_on rs
     pub runs : c'.runs ≡ c.runs + length (repeats_on rs)
     pub longest : c'.longest ≡ max c.longest (longest_of (repeats_on rs))
-    pub first : c'.first ≡ cond (ltb c.longest (longest_of (repeats_on rs))) (path + 1) c.first
+    pub first : c'.first ≡ cond (ltb c.longest (longest_of (repeats_on rs))) (Some (record { 0 = path })) c.first
 
   -- what a run on the node adds to what the runs behind it add, and what one elsewhere does
   repeats_here : (r : Run) (rs : List Run) → on node r.step ≡ true → repeats_on (r ∷ rs) ≡ cond (leb 2 r.count) (r ∷ repeats_on rs) (repeats_on rs)
@@ -73,7 +75,7 @@ module _ (node : List ℕ) where
     finished_here e m =
         record {
           visits = rw e (omega (arith, m.visits));
-          paths = m.paths ∙ rw (e, eq-eqb (path + 1) (path + 1) refl);
+          paths = m.paths ∙ rw (e, eq-eqb path path refl);
           last = λ h. m.last (omega arith);
           adjacent = rw e (omega (arith, m.adjacent));
           equal = rw e (omega (arith, m.equal));
@@ -85,7 +87,10 @@ module _ (node : List ℕ) where
         long : d.longest ≡ max (cond (is_longer c r.count) r.count c.longest) (longest_of (repeats_on rs)) → d.longest ≡ max c.longest (longest_of (cond (leb 2 r.count) (r ∷ repeats_on rs) (repeats_on rs)))
         long h = by_test (leb 2 r.count) (λ f. by_test (ltb c.longest r.count) (λ g. rw f (omega (arith, rw (f, g) at h, ltb-true c.longest r.count g))) (λ g. rw f (omega (arith, rw (f, g) at h, ltb-false c.longest r.count g)))) (λ f. rw f (rw f at h))
 
-        earliest : cond (ltb (cond (is_longer c r.count) r.count c.longest) (longest_of (repeats_on rs))) (path + 1) (cond (is_longer c r.count) (path + 1) c.first) ≡ cond (ltb c.longest (longest_of (cond (leb 2 r.count) (r ∷ repeats_on rs) (repeats_on rs)))) (path + 1) c.first
+        its : Option PathNo
+        its = Some (record { 0 = path })
+
+        earliest : cond (ltb (cond (is_longer c r.count) r.count c.longest) (longest_of (repeats_on rs))) its (cond (is_longer c r.count) its c.first) ≡ cond (ltb c.longest (longest_of (cond (leb 2 r.count) (r ∷ repeats_on rs) (repeats_on rs)))) its c.first
         earliest =
             by_test (leb 2 r.count)
             (λ f. by_test (ltb c.longest r.count)
@@ -112,7 +117,7 @@ module _ (node : List ℕ) where
   finished_none path c =
       record {
         visits = omega arith;
-        paths = by_test (eqb c.last (path + 1)) (λ e. rw e) (λ e. rw e (omega arith));
+        paths = by_test (is_path c.last path) (λ e. rw e) (λ e. rw e (omega arith));
         last = λ h. h;
         adjacent = omega arith;
         equal = omega arith;

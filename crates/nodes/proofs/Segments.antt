@@ -9,6 +9,7 @@ use Rattle.gfa_spec.specs.Bytes.{part, same, star}
 use Rattle.gfa_spec.specs.Records.{sequence_or_empty}
 use Rattle.gfa_spec.specs.Sequences.{sequence_len}
 use Rattle.gfa_spec.proofs.Tests.{by_test}
+use Rattle.work.specs.Rows.{word_of}
 use Rattle.scan.specs.declared.places.Place.{Place}
 use Rattle.scan.specs.Places.{bytes_in}
 use Rattle.tables.specs.declared.entry.SegmentNo.{SegmentNo}
@@ -19,7 +20,7 @@ use Rattle.tables.specs.Segments.{FoundBelow}
 use Rattle.tables.specs.ByNumber.{SegmentIs, NamedIs}
 use Rattle.tables.proofs.Named.{named_below, named_sequence, unnamed_sequence}
 use Rattle.nodes.specs.declared.segment.Known.{Known}
-use Rattle.nodes.specs.Table.{number_word, KnownIs}
+use Rattle.nodes.specs.Table.{segment_word, KnownIs}
 
 -- a sequence is at most as long as its bytes, and a part as the text
 length_less : (seq : List ℕ) → sequence_len seq ≤ length seq
@@ -48,11 +49,11 @@ module _ {text work : List ℕ} {b : Bases} {n : Counts} {name : Place} {r : Opt
       }
 
 -- the word of the number is small
-pub known_small : {text work : List ℕ} {b : Bases} {n : Counts} {name : Place} {r : Known} → KnownIs text work b n name r → number_word r.number ≤ n.segs
-unfolding number_word
+pub known_small : {text work : List ℕ} {b : Bases} {n : Counts} {name : Place} {r : Known} → KnownIs text work b n name r → segment_word r.number ≤ n.segs
+unfolding word_of
 known_small {n = n} {r = r} k = go r.number k.below
   where
-    go : (o : Option SegmentNo) → FoundBelow n.segs o → number_word o ≤ n.segs
+    go : (o : Option SegmentNo) → FoundBelow n.segs o → segment_word o ≤ n.segs
     go None h = omega arith
     go (Some j) h = omega arith
 

@@ -8,14 +8,17 @@ use mathlib.Core.Path.{◌≡◌, refl, ◌∙◌}
 use lib.ListN.{length, get_or}
 use lib.Seq.{sets, length-sets}
 use Rattle.std.specs.Prelude.{Option, Some, None}
-use Rattle.work.specs.Rows.{span, Only}
+use Rattle.work.specs.Rows.{span, Only, number_in}
 use Rattle.work.proofs.Rows.{KeptWords, only_put, only_then, only_wider, only_kept, kept_within, outside_less}
 use Rattle.work.proofs.Stores.{sets_here, sets_first}
+use Rattle.work.proofs.Words.{number_word}
 use Rattle.tables.specs.declared.entry.SegmentNo.{SegmentNo}
+use Rattle.tables.specs.declared.entry.PathNo.{PathNo}
+use Rattle.tables.specs.Segments.{segment_found}
 use Rattle.nodes.specs.declared.counters.Counter.{Counter}
 use Rattle.nodes.specs.declared.nodes.NodeWords.{NodeWords}
-use Rattle.nodes.specs.Counters.{counter_words}
-use Rattle.nodes.specs.Table.{nodes_end, numbered, number_word, node_no, counter_no, names_to, RowPut}
+use Rattle.nodes.specs.Counters.{path_found, path_word, counter_words}
+use Rattle.nodes.specs.Table.{nodes_end, segment_word, node_no, counter_no, names_to, RowPut}
 
 -- ---- rows that stand
 
@@ -57,11 +60,14 @@ names_same text w w' table (suc n) same = rw (names_same text w w' table n (λ k
 
 -- ---- a row that is stored
 
--- a word holds the number that it is made of
-word_numbered : (m : Option SegmentNo) → numbered (number_word m) ≡ m
-unfolding numbered number_word
-word_numbered None = refl
-word_numbered (Some k) = refl
+-- the word of a number stands for it
+segment_told : (m : Option SegmentNo) → segment_found (number_in (segment_word m)) ≡ m
+segment_told None = rw (number_word None)
+segment_told (Some k) = rw (number_word (Some k.0))
+
+path_told : (m : Option PathNo) → path_found (number_in (path_word m)) ≡ m
+path_told None = rw (number_word None)
+path_told (Some k) = rw (number_word (Some k.0))
 
 module _ {w w' : List ℕ} {table k : ℕ} {a : NodeWords} {c : Counter} (p : RowPut w w' table k a c) where
   side : (j : ℕ) → (j ≡ k → ⊥) → Dec (k < j) → KeptWords (nodes_end table j) (nodes_end table (j + 1)) w w'
@@ -91,16 +97,16 @@ module _ {w w' : List ℕ} {table k : ℕ} {a : NodeWords} {c : Counter} (p : Ro
 
 module _ {w w' : List ℕ} {table k : ℕ} (room : nodes_end table (k + 1) ≤ length w) where
   -- the words of a new row
-  pub put_words : {start size long links bits : ℕ} {number : Option SegmentNo} → w' ≡ sets w (table + 14 * k) (start ∷ size ∷ number_word number ∷ long ∷ links ∷ bits ∷ [])
+  pub put_words : {start size long links bits : ℕ} {number : Option SegmentNo} → w' ≡ sets w (table + 14 * k) (start ∷ size ∷ segment_word number ∷ long ∷ links ∷ bits ∷ [])
       → RowPut w w' table k (record { name = record { start = start; size = size }; number = number; long = long; links = links; bits = bits }) (counter_no w table k)
   unfolding node_no
   put_words {start} {size} {long} {links} {bits} {number} s =
       let at = table + 14 * k in
-      let row = start ∷ size ∷ number_word number ∷ long ∷ links ∷ bits ∷ [] in
+      let row = start ∷ size ∷ segment_word number ∷ long ∷ links ∷ bits ∷ [] in
       let here : (d : ℕ) → d < 6 → get_or (sets w at row) (at + d) 0 ≡ get_or row d 0 = λ d l. sets_here row w at d l (omega arith) in
       rw s
       (record {
-        words = rw (sets_first row w at (omega arith) (omega arith), here 1 (omega arith), here 2 (omega arith), here 3 (omega arith), here 4 (omega arith), here 5 (omega arith), word_numbered number);
+        words = rw (sets_first row w at (omega arith) (omega arith), here 1 (omega arith), here 2 (omega arith), here 3 (omega arith), here 4 (omega arith), here 5 (omega arith), segment_told number);
         counts = counter_kept table k (only_kept (at + 6) (nodes_end table (k + 1)) (only_put row w at) (inr (omega arith), tt));
         long = length-sets w at row;
         only = only_wider (span at (nodes_end table (k + 1)) ∷ []) (only_put row w at) (λ i o. (outside_less at (at + 6) o.0 (omega arith) (omega arith), tt));
@@ -145,6 +151,8 @@ module _ {w w' : List ℕ} {table k : ℕ} (room : nodes_end table (k + 1) ≤ l
               here 5 (at + 11) (omega arith) (omega arith),
               here 6 (at + 12) (omega arith) (omega arith),
               here 7 (at + 13) (omega arith) (omega arith),
+              path_told c.last,
+              path_told c.first,
             );
         long = length-sets w (at + 6) row;
         only = only_wider (span at (nodes_end table (k + 1)) ∷ []) (only_put row w (at + 6)) (λ i o. (outside_less (at + 6) (at + 6 + 8) o.0 (omega arith) (omega arith), tt));

@@ -1,6 +1,6 @@
 -- The node table: a row for each node with a self-link. No width and no place of a row is named above this file and its laws.
 use Rattle.std.specs.Prelude.{ℕ, zero, suc, ◌+◌, ◌*◌, ◌/◌, ◌%◌, ◌≤◌, ◌<◌, Bool, true, false, cond, ◌&&◌, List, [], ◌∷◌, ◌++◌, map, ◌≡◌, eqb, length, get_or}
-use Rattle.std.specs.Prelude.{Option, Some, None}
+use Rattle.std.specs.Prelude.{Option, Some, None, option_map}
 use Rattle.gfa_spec.specs.Bytes.{same, any, keep}
 use Rattle.gfa_spec.specs.Reading.{Segment, Link, Path}
 use Rattle.gfa_spec.specs.Records.{segment_number, sequence_or_empty, is_self_link}
@@ -10,7 +10,7 @@ use Rattle.scan.specs.declared.places.Place.{Place}
 use Rattle.scan.specs.declared.orientation.Orientation.{Orientation}
 use Rattle.scan.specs.declared.orientation.Orientation.TheVariants.{Forward, Reverse}
 use Rattle.scan.specs.Places.{bytes_in, Inside}
-use Rattle.work.specs.Rows.{span, Only}
+use Rattle.work.specs.Rows.{span, Only, word_of, number_in}
 use Rattle.tables.specs.declared.tables.Bases.{Bases}
 use Rattle.tables.specs.declared.tables.Counts.{Counts}
 use Rattle.tables.specs.declared.entry.SegmentNo.{SegmentNo}
@@ -21,7 +21,7 @@ use Rattle.report_spec.specs.Nodes.{each_once}
 use Rattle.nodes.specs.declared.counters.Counter.{Counter}
 use Rattle.nodes.specs.declared.nodes.NodeWords.{NodeWords}
 use Rattle.nodes.specs.declared.segment.Known.{Known}
-use Rattle.nodes.specs.Counters.{CounterOf}
+use Rattle.nodes.specs.Counters.{path_found, CounterOf}
 
 -- ---- a row
 
@@ -29,22 +29,16 @@ use Rattle.nodes.specs.Counters.{CounterOf}
 abbrev pub nodes_end : ℕ → ℕ → ℕ
 nodes_end table m = table + 14 * m
 
--- the number that a word holds: plus one, or 0 for none
-unfoldable pub numbered : ℕ → Option SegmentNo
-numbered zero = None
-numbered (suc k) = Some (record { 0 = k })
-
--- the word that holds a number
-unfoldable pub number_word : Option SegmentNo → ℕ
-number_word None = 0
-number_word (Some k) = suc k.0
+-- the word for a segment's number that may be missing
+abbrev pub segment_word : Option SegmentNo → ℕ
+segment_word o = word_of (option_map (λ k. k.0) o)
 
 -- what the links say of node k
 unfoldable pub node_no : List ℕ → ℕ → ℕ → NodeWords
 node_no work table k =
     record {
       name = place_at work (table + 14 * k);
-      number = numbered (get_or work (table + 14 * k + 2) 0);
+      number = segment_found (number_in (get_or work (table + 14 * k + 2) 0));
       long = get_or work (table + 14 * k + 3) 0;
       links = get_or work (table + 14 * k + 4) 0;
       bits = get_or work (table + 14 * k + 5) 0;
@@ -61,12 +55,12 @@ counter_no work table k =
     record {
       visits = get_or work (table + 14 * k + 6) 0;
       paths = get_or work (table + 14 * k + 7) 0;
-      last = get_or work (table + 14 * k + 8) 0;
+      last = path_found (number_in (get_or work (table + 14 * k + 8) 0));
       adjacent = get_or work (table + 14 * k + 9) 0;
       equal = get_or work (table + 14 * k + 10) 0;
       runs = get_or work (table + 14 * k + 11) 0;
       longest = get_or work (table + 14 * k + 12) 0;
-      first = get_or work (table + 14 * k + 13) 0;
+      first = path_found (number_in (get_or work (table + 14 * k + 13) 0));
     }
 
 -- its name
@@ -89,7 +83,7 @@ pub record RowPut (work work' : List ℕ) (table k : ℕ) (w : NodeWords) (c : C
 pub record SmallNode (w : NodeWords) : Type 0 where
   pub start : w.name.start < 4294967296
   pub size : w.name.size < 4294967296
-  pub number : number_word w.number < 4294967296
+  pub number : segment_word w.number < 4294967296
   pub long : w.long < 4294967296
   pub links : w.links < 4294967296
   pub bits : w.bits < 4294967296

@@ -1,9 +1,9 @@
 // The node table: a row of fourteen words for each node with a self-link, in the order of first self-links. Its words: start and length
-// of the name, the segment's number plus one or 0, the sequence's length, self-links, their orientation pairs, and eight counters.
+// of the name, the word for the segment's number, the sequence's length, self-links, their orientation pairs, and eight counters.
 ghost use Rattle.std.specs.Prelude.{◌≡◌, ◌+◌, ◌≤◌, ◌<◌, length};
 ghost use Rattle.scan.specs.Places.{Inside};
 ghost use Rattle.nodes.specs.Counters.{no_counter};
-ghost use Rattle.nodes.specs.Table.{nodes_end, node_no, NodeRead, counter_no, RowPut, SmallNode, NamesInside, SearchIs, numbered, number_word, weight_of, marked_of, row_with_link};
+ghost use Rattle.nodes.specs.Table.{nodes_end, node_no, NodeRead, counter_no, RowPut, SmallNode, NamesInside, SearchIs, segment_word, weight_of, marked_of, row_with_link};
 
 use crate::counters::{Counter, put_counter};
 use scan::names::same_name;
@@ -11,7 +11,7 @@ use scan::orientation::Orientation;
 use scan::places::Place;
 use tables::entry::SegmentNo;
 use tables::rows::LinkWords;
-use work::work::{put_row, word};
+use work::work::{number_in, put_row, word, word_of};
 
 // What the links say of a node: its name, its segment's number, the sequence's length, its self-links, their pairs.
 #[derive(Clone, Copy)]
@@ -23,26 +23,12 @@ pub struct NodeWords {
     pub bits: usize,
 }
 
-// The number that a word holds: plus one, or 0 for none.
-#[tactic(auto, unfolding(crate::specs::Table::numbered))]
-fn numbered(word: u32) -> Option<SegmentNo>
-    ensures { result ≡ numbered word }
+// The word for a segment's number that may be missing.
+fn segment_word(number: Option<SegmentNo>) -> usize
+    requires { segment_word number < 4294967296 }
+    ensures { result ≡ segment_word number }
 {
-    if word == 0 {
-        return None;
-    }
-    Some(SegmentNo(word - 1))
-}
-
-// The word that holds a number.
-#[tactic(auto, unfolding(crate::specs::Table::number_word))]
-fn number_word(number: Option<SegmentNo>) -> usize
-    ensures { result ≡ number_word number }
-{
-    match number {
-        Some(k) => k.0 as usize + 1,
-        None => 0,
-    }
+    word_of(number.map(|k| k.0 as usize))
 }
 
 // The word behind the first `m` rows.
@@ -66,7 +52,7 @@ pub fn node_at(work: &[u32], table: usize, k: usize) -> NodeWords
     };
     NodeWords {
         name,
-        number: numbered(work[at + 2]),
+        number: number_in(work[at + 2]).map(SegmentNo),
         long: word(work, at + 3),
         links: word(work, at + 4),
         bits: word(work, at + 5),
@@ -74,6 +60,7 @@ pub fn node_at(work: &[u32], table: usize, k: usize) -> NodeWords
 }
 
 // Puts row `k`: nothing is counted on paths yet.
+#[tactic(auto, unfolding(work::specs::Rows::word_of))]
 pub fn put_node(work: &mut [u32], table: usize, k: usize, w: NodeWords)
     requires { (nodes_end table (k + 1) ≤ length work.old) × SmallNode w }
     ensures { RowPut work.old work.new table k w no_counter }
@@ -81,7 +68,7 @@ pub fn put_node(work: &mut [u32], table: usize, k: usize, w: NodeWords)
     let row = [
         w.name.start,
         w.name.size,
-        number_word(w.number),
+        segment_word(w.number),
         w.long,
         w.links,
         w.bits,
@@ -90,12 +77,12 @@ pub fn put_node(work: &mut [u32], table: usize, k: usize, w: NodeWords)
     let none = Counter {
         visits: 0,
         paths: 0,
-        last: 0,
+        last: None,
         adjacent: 0,
         equal: 0,
         runs: 0,
         longest: 0,
-        first: 0,
+        first: None,
     };
     put_counter(work, table, k, none);
 }

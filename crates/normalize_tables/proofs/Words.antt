@@ -1,24 +1,19 @@
 -- The words for numbers that may be missing, and for tests. Assumes nothing.
-use Prim.Native.Nat.{ℕ, zero, suc, ◌+◌, ◌*◌, ◌-◌, ◌≤◌, ◌<◌}
+use Prim.Native.Nat.{ℕ, ◌+◌, ◌*◌, ◌≤◌, ◌<◌}
 use native.Mathlib.Omega.{arith}
 use mathlib.Core.List.{List}
 use mathlib.Core.Path.{◌≡◌, refl}
 use lib.ListN.{get_or}
-use Rattle.std.specs.Prelude.{Option, None, Some, SomeIff}
+use Rattle.std.specs.Prelude.{Option, None, Some}
 use Rattle.gfa_spec.specs.Runs.{bit}
 use Rattle.gfa_spec.proofs.Counting.{bit_set}
 use Rattle.work.specs.Rows.{word_of}
+use Rattle.work.proofs.Words.{number_word}
 use Rattle.normalize_tables.specs.declared.layout.Layout.{Layout}
 use Rattle.normalize_tables.specs.declared.rows.Ends.{Ends}
 use Rattle.normalize_tables.specs.declared.rows.NewSegmentWords.{NewSegmentWords}
-use Rattle.normalize_tables.specs.News.{number_in, segment_words}
+use Rattle.normalize_tables.specs.News.{segment_words}
 use Rattle.normalize_tables.specs.NewByNumber.{ends_no}
-
--- the number of a number's word
-pub number_word : (o : Option ℕ) → number_in (word_of o) ≡ o
-unfolding number_in word_of
-number_word None = refl
-number_word (Some k) = refl
 
 -- the word of number k
 pub word_some : (o : Option ℕ) (k : ℕ) → o ≡ Some k → word_of o ≡ k + 1
@@ -30,14 +25,6 @@ pub word_below : (o : Option ℕ) (k : ℕ) → ((i : ℕ) → o ≡ Some i → 
 unfolding word_of
 word_below None k h = omega arith
 word_below (Some i) k h = let l = h i refl in omega arith
-
--- a number is a word less one
-pub number_told : (o : Option ℕ) (w : ℕ) {x : ℕ} → SomeIff o (1 ≤ x) (x - 1) → x ≡ w → o ≡ number_in w
-unfolding number_in
-number_told None zero s e = refl
-number_told None (suc k) s e = absurd (s (omega arith))
-number_told (Some j) zero s e = absurd (omega (arith, s.0))
-number_told (Some j) (suc k) s e = let z : j ≡ k = omega (arith, s.1) in rw z
 
 -- a new segment, by its words
 pub segment_told : (work : List ℕ) (g : Layout) (j : ℕ) (r : NewSegmentWords) → get_or work (g.segs + 4 * j) 0 ≡ r.unit.0 → get_or work (g.segs + 4 * j + 1) 0 ≡ r.count

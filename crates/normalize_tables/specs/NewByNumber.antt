@@ -6,7 +6,7 @@ use Rattle.normalize_spec.specs.Folding.{NewStep}
 use Rattle.scan.specs.Orientations.{sign_of}
 use Rattle.gfa_spec.specs.Runs.{bit}
 use Rattle.std.proofs.lemmas.List.Edits.{sets}
-use Rattle.work.specs.Rows.{EachRow, Range, span, Only, word_of}
+use Rattle.work.specs.Rows.{EachRow, Range, span, Only, word_of, number_in}
 use Rattle.tables.specs.declared.tables.Bases.{Bases}
 use Rattle.tables.specs.declared.tables.Counts.{Counts}
 use Rattle.normalize_tables.specs.declared.layout.Layout.{Layout}
@@ -15,7 +15,7 @@ use Rattle.normalize_tables.specs.declared.rows.NewSegmentWords.{NewSegmentWords
 use Rattle.normalize_tables.specs.declared.rows.NewStepWords.{NewStepWords}
 use Rattle.normalize_tables.specs.declared.rows.NewPathWords.{NewPathWords}
 use Rattle.normalize_tables.specs.declared.rows.Ends.{Ends}
-use Rattle.normalize_tables.specs.News.{number_in, StepEntry, segment_words, step_words, path_words, new_of, new_at, NewRow, new_step_at, new_steps_at, NewStepRow, new_path_at, new_paths_at, NewPathRow}
+use Rattle.normalize_tables.specs.News.{StepEntry, segment_words, step_words, path_words, new_of, new_at, NewRow, new_step_at, new_steps_at, NewStepRow, new_path_at, new_paths_at, NewPathRow}
 
 -- ---- numbers
 

@@ -1,5 +1,5 @@
 -- New segments, new steps and new paths as rows of the work area. Document 01, "Folding", rules 4 and 5.
-use Rattle.std.specs.Prelude.{ℕ, zero, suc, ◌+◌, ◌*◌, ◌≤◌, ◌<◌, true, cond, List, [], ◌∷◌, ◌≡◌, ltb, get_or}
+use Rattle.std.specs.Prelude.{ℕ, suc, ◌+◌, ◌*◌, ◌≤◌, ◌<◌, true, cond, List, [], ◌∷◌, ◌≡◌, ltb, get_or}
 use Rattle.std.specs.Prelude.{Option, option_map, None, Some}
 use Rattle.gfa_spec.specs.Bytes.{same, any, nth, repeat}
 use Rattle.gfa_spec.specs.Decimal.{decimal, largest64}
@@ -7,7 +7,7 @@ use Rattle.gfa_spec.specs.Reading.{Segment, is_orientation}
 use Rattle.normalize_spec.specs.Folding.{New, NewStep, sanitized, taken, none_made}
 use Rattle.normalize_spec.specs.Links.{Key}
 use Rattle.normalize_spec.specs.NewNames.{new_name}
-use Rattle.work.specs.Rows.{rows_at}
+use Rattle.work.specs.Rows.{rows_at, number_in}
 use Rattle.tables.specs.declared.tables.Bases.{Bases}
 use Rattle.tables.specs.declared.tables.Counts.{Counts}
 use Rattle.tables.specs.ByNumber.{segment_no, segments_of}
@@ -21,11 +21,6 @@ use Rattle.normalize_tables.specs.declared.rows.NewPathWords.{NewPathWords}
 pub record StepEntry : Type 0 where
   pub node : ℕ
   pub mark : ℕ
-
--- the number that a word stands for, which may be missing: the word less one, or none for 0; `word_of` of work/specs/Rows is its word
-unfoldable pub number_in : ℕ → Option ℕ
-number_in zero = None
-number_in (suc k) = Some k
 
 -- the words of new segment j, of new step k, of new path p
 abbrev pub segment_words : List ℕ → Layout → ℕ → NewSegmentWords

@@ -1,15 +1,14 @@
 // Rows of the normalizer's tables by their numbers: the words of a row come back by name, in a struct. What stands above this crate knows
 // neither where a row is nor how wide it is.
 ghost use Rattle.std.specs.Prelude.{◌≡◌, ◌+◌, ◌≤◌, ◌<◌, length, get_or};
-ghost use Rattle.work.specs.Rows.{word_of};
-ghost use Rattle.normalize_tables.specs.News.{number_in};
+ghost use Rattle.work.specs.Rows.{number_in, word_of};
 ghost use Rattle.normalize_tables.specs.NewByNumber.{NewSegmentThere, NewSegmentIs, NewStepThere, NewStepIs, NewPathThere, NewPathIs, ends_no, SegmentRoom, StepRoom, PathRoom, EndsRoom, NewSegmentPut, NewStepPut, NewPathPut, EndsPut};
 
 use crate::layout::{Area, Layout};
 use scan::orientation::Orientation;
 use tables::entry::{LinkNo, PathNo, SegmentNo};
 use tables::graph::orientation_at;
-use work::work::{put_row, word};
+use work::work::{number_in, put_row, word, word_of};
 
 // A new segment's row: its unit, the run length, the suffix of its name, and the new segment before it on that unit, if there is one.
 #[derive(Clone, Copy)]
@@ -47,19 +46,7 @@ pub fn number_at(work: &[u32], at: usize) -> Option<usize>
     requires { at < length work.now }
     ensures { result ≡ number_in (get_or work.now at 0) }
 {
-    word(work, at).checked_sub(1)
-}
-
-// The word for a number.
-#[tactic(auto, unfolding(work::specs::Rows::word_of))]
-fn word_for(number: Option<usize>) -> usize
-    requires { word_of number < 4294967296 }
-    ensures { result ≡ word_of number }
-{
-    match number {
-        Some(k) => k + 1,
-        None => 0,
-    }
+    number_in(work[at]).map(|k| k as usize)
 }
 
 // New segment `j`.
@@ -128,7 +115,7 @@ pub fn put_new_segment(work: &mut [u32], g: Layout, j: usize, r: NewSegmentWords
     put_row(
         work,
         g.segs + 4 * j,
-        &[unit, r.count, r.suffix, word_for(r.before)],
+        &[unit, r.count, r.suffix, word_of(r.before)],
     );
 }
 
@@ -157,8 +144,8 @@ pub fn put_ends(work: &mut [u32], g: Layout, i: LinkNo, r: Ends)
     requires { EndsRoom work.old g (i.0 + 1) × (word_of r.from < 4294967296) × (word_of r.to < 4294967296) }
     ensures { EndsPut work.old work.new g i.0 r }
 {
-    let from = word_for(r.from);
-    let to = word_for(r.to);
+    let from = word_of(r.from);
+    let to = word_of(r.to);
     put_row(
         work,
         g.ends + 3 * i.0 as usize,

@@ -93,7 +93,7 @@ module _ {es : List Entry} {text w w' : List ℕ} {b : Bases} {n : Counts} {m : 
         name = r.table.inside k h;
         segment = rw q.number (below (segment_number ss name) n.segs (λ k e. omega (arith, segments_length text w b n.segs, number_small ss name k e)));
         bits = rw q.bits (bits_small (links_among (links_to text w b n.links) name));
-        path = omega (arith, (r.counts.row k h).known, paths_length text w b n.paths);
+        path = rw paths_length at (r.counts.row k h).known;
       }
 
   -- the numbers, in either order, are those of rows

@@ -1,5 +1,5 @@
 -- The tables hold the nodes of the definitions, and the report by the tables is the definitions' report. Assumes nothing.
-use Prim.Native.Nat.{ℕ, zero, suc, ◌+◌, ◌-◌, ◌≤◌, ◌<◌, min}
+use Prim.Native.Nat.{ℕ, zero, suc, ◌+◌, ◌-◌, ◌<◌, min}
 use native.Mathlib.Omega.{arith}
 use mathlib.Core.Bool.{Bool, true, false, cond, ◌&&◌, true≢false}
 use mathlib.Core.List.{List, [], ◌∷◌, ◌++◌, map, map-append}
@@ -10,7 +10,7 @@ use mathlib.Core.Path.{◌≡◌, refl, sym, ap, ◌∙◌}
 use lib.Dec.{ltb}
 use lib.ListN.{length, take, length-append, length-map}
 use lib.Seq.{take_at, take_all}
-use borrow.Author.Tests.{ltb-true, ltb-false, ne_eqb}
+use borrow.Author.Tests.{ltb-true, ltb-false}
 use Rattle.gfa_spec.proofs.Answered.{path_some}
 use Rattle.gfa_spec.specs.Bytes.{bytes, same, any, keep, join, Each}
 use Rattle.gfa_spec.specs.Decimal.{largest64}
@@ -24,6 +24,7 @@ use Rattle.gfa_spec.proofs.Each.{each_implies}
 use Rattle.work.proofs.Rows.{only_kept, rows_length}
 use Rattle.tables.specs.declared.tables.Bases.{Bases}
 use Rattle.tables.specs.declared.tables.Counts.{Counts}
+use Rattle.tables.specs.declared.entry.PathNo.{PathNo}
 use Rattle.tables.specs.Segments.{segment_found}
 use Rattle.tables.specs.Tables.{Readable}
 use Rattle.tables.specs.ByNumber.{segment_no, path_no, segments_of, links_to, paths_to, tables_end}
@@ -33,7 +34,7 @@ use Rattle.tables.proofs.Numbers.{none_sequence, some_sequence}
 use Rattle.runs.specs.Counts.{over_rows}
 use Rattle.report_spec.specs.Nodes.{each_once, nodes, node_of, links_on, order_of, orientations, repeats, longest as longest_of}
 use Rattle.report_spec.specs.Lines.{bucket_line, report}
-use Rattle.nodes.specs.Counters.{named}
+use Rattle.nodes.specs.Counters.{PathBelow, named}
 use Rattle.nodes.specs.Table.{counter_no, name_no, names_to, code, is_pair, bits_of, links_among}
 use Rattle.tally.specs.Tabled.{Tabled}
 use Rattle.ranks.specs.declared.ranking.Order.TheVariants.{Lengths, Ranks}
@@ -134,15 +135,14 @@ preview_word text w b n name (Some k) e =
     rw q
 
 -- the name of a path, by its number
-path_word : (text w : List ℕ) (b : Bases) (n : Counts) (number : ℕ) → number ≤ n.paths → path_from text w b number ≡ named number (paths_to text w b n.paths)
+path_word : (text w : List ℕ) (b : Bases) (n : Counts) (number : Option PathNo) → PathBelow n.paths number → path_from text w b number ≡ named number (paths_to text w b n.paths)
 unfolding path_from named map_or
-path_word text w b n zero h = refl
-path_word text w b n (suc k) h =
+path_word text w b n None h = refl
+path_word text w b n (Some k) h =
     let ps = paths_to text w b n.paths in
     let d = path_no text w b 0 in
-    let z : suc k - 1 ≡ k = omega arith in
-    let q : nth_path k ps ≡ Some (path_no text w b k) = path_some k ps d (omega (arith, paths_length text w b n.paths)) ∙ ap Some (paths_nth text w b n.paths k d (omega arith)) in
-    rw (ne_eqb (suc k) 0 (λ e. omega arith), z, q)
+    let q : nth_path k.0 ps ≡ Some (path_no text w b k.0) = path_some k.0 ps d (omega (arith, paths_length text w b n.paths)) ∙ ap Some (paths_nth text w b n.paths k.0 d h) in
+    rw q
 
 -- ---- lists of numbers
 
@@ -209,7 +209,7 @@ module _ {es : List Entry} {text w w' : List ℕ} {b : Bases} {n : Counts} {m : 
         let ps = paths_to text w b n.paths in
         let before = preview_word text w' b n name (segment_number (segments_of text w' b n) name) refl in
         let preview : preview_from text w' b (segment_found (segment_number ss name)) ≡ sequence_preview (sequence_or_empty ss name) = rw (segments_stand l.readable keeps_tables) at before in
-        let path : path_from text w' b first ≡ named first ps = rw (paths_stand l.readable keeps_tables) at (path_word text w' b n first (omega (arith, c.known, paths_length text w b n.paths))) in
+        let path : path_from text w' b first ≡ named first ps = rw (paths_stand l.readable keeps_tables) at (path_word text w' b n first (rw paths_length at c.known)) in
         rw (
           x.of_segments,
           x.of_links,

@@ -10,7 +10,7 @@ pub struct SegmentNo(pub u32);
 #[derive(Clone, Copy)]
 pub struct LinkNo(pub u32);
 
-#[derive(Clone, Copy)]
+#[derive(Clone, Copy, PartialEq, Eq)]
 pub struct PathNo(pub u32);
 
 // The place of a line in the text, as the words of its row are: of a `Place` it would have to be shown that it fits them.

@@ -15,6 +15,7 @@ use Rattle.tables.specs.ByNumber.{path_no, paths_to, paths_from, steps_from, tab
 use Rattle.runs.specs.Counts.{over_rows}
 use Rattle.tables.proofs.ByNumber.{TablesKept, paths_more, steps_none, path_stands, steps_stand, paths_zero, paths_length, steps_length, paths_cut}
 use Rattle.report_spec.specs.Nodes.{total, longest}
+use Rattle.nodes.proofs.Paths.{below_more}
 use Rattle.nodes.specs.declared.counters.Counter.{Counter}
 use Rattle.nodes.specs.Counters.{CounterFits, finish, CounterOf}
 use Rattle.nodes.specs.Table.{counter_no, name_no, CountRows}
@@ -101,7 +102,7 @@ pub record Passing (text before work : List ℕ) (b : Bases) (n : Counts) (m p :
 -- counters of no path fit
 none_fits : {node : List ℕ} {c : Counter} {left : ℕ} → left ≤ 2097152 → CounterOf node [] c → CounterFits left 0 c
 unfolding total sum count join longest
-none_fits h r =
+none_fits {c = c} h r =
     record {
       visits = omega (arith, r.visits);
       paths = omega (arith, r.paths);
@@ -109,7 +110,7 @@ none_fits h r =
       equal = omega (arith, r.equal);
       runs = omega (arith, r.runs);
       longest = omega (arith, r.longest);
-      first = omega (arith, r.known);
+      first = below_more _ _ c.first (omega arith) r.known;
     }
 
 module _ {text before : List ℕ} {b : Bases} {n : Counts} {m : ℕ} where

@@ -1,10 +1,10 @@
 -- The counters of a node, with one path more: they are what the definitions say of the paths with it. Assumes nothing.
 use Prim.Native.Nat.{ℕ, zero, suc, ◌+◌, ◌≤◌, ◌<◌, max}
-use native.Mathlib.Numerals.{add-one}
 use native.Mathlib.Omega.{arith}
 use mathlib.Core.Bool.{Bool, true, false, cond, ◌&&◌, ◌||◌, false≢true}
 use mathlib.Core.List.{List, [], ◌∷◌, ◌++◌, map, map-append}
 use mathlib.Core.Path.{◌≡◌, refl, ◌∙◌}
+use Rattle.std.specs.Prelude.{Option, Some, None}
 use Rattle.gfa_spec.specs.Options.{map_or}
 use lib.Dec.{eqb, ltb}
 use lib.ListN.{length, length-append}
@@ -19,7 +19,9 @@ use Rattle.writers.proofs.Joining.{join_last}
 use Rattle.report_spec.specs.Nodes.{on, visits, repeats, repeats_at, longest, path_name, first_with, total}
 use Rattle.gfa_spec.proofs.Runs.{sum_append}
 use Rattle.nodes.specs.declared.counters.Counter.{Counter}
-use Rattle.nodes.specs.Counters.{no_counter, finish, named, CounterOf}
+use Rattle.tables.specs.declared.entry.PathNo.{PathNo}
+use Rattle.nodes.specs.Counters.{PathBelow, no_counter, finish, named, CounterOf}
+use Rattle.nodes.proofs.Paths.{below_more, below_other, below_either}
 use Rattle.nodes.proofs.Counting.{repeats_on, finished, summed}
 
 -- ---- one more behind the others
@@ -84,25 +86,20 @@ longest_some (x ∷ xs) h = refl
 
 -- ---- the name of a path
 
-named_less : (k : ℕ) (ps : List Path) (p : Path) → k ≤ length ps → named k (ps ++ (p ∷ [])) ≡ named k ps
+named_less : (o : Option PathNo) (ps : List Path) (p : Path) → PathBelow (length ps) o → named o (ps ++ (p ∷ [])) ≡ named o ps
 unfolding named nth_path
-named_less zero ps p h = refl
-named_less (suc k) ps p h = rw (less k ps h)
+named_less None ps p h = refl
+named_less (Some k) ps p h = rw (less k.0 ps h)
   where
     less : (k : ℕ) (ps : List Path) → suc k ≤ length ps → nth_path k (ps ++ (p ∷ [])) ≡ nth_path k ps
     less k [] h = absurd (omega arith)
     less zero (q ∷ ps) h = refl
     less (suc k) (q ∷ ps) h = less k ps (omega arith)
 
-named_last : (ps : List Path) (p : Path) → named (length ps + 1) (ps ++ (p ∷ [])) ≡ path_name p
+named_last : (ps : List Path) (p : Path) → named (Some (record { 0 = length ps })) (ps ++ (p ∷ [])) ≡ path_name p
 unfolding named nth_path map_or
 named_last [] p = refl
-named_last (q ∷ ps) p = rw add-one (rw add-one at (named_last ps p))
-
--- a choice is at most what both are
-cond_le : {a b n : ℕ} (t : Bool) → a ≤ n → b ≤ n → cond t a b ≤ n
-cond_le true p q = p
-cond_le false p q = q
+named_last (q ∷ ps) p = named_last ps p
 
 -- a count with one element more
 bit_cond : (n : ℕ) (t : Bool) → n + bit t ≡ cond t (n + 1) n
@@ -139,12 +136,12 @@ module _ (node : List ℕ) where
 
   -- ---- one path more
 
-  module _ (ps : List Path) (p : Path) (k : ℕ) (known : k ≤ length ps) (old new : List Run) (eo : join (map (repeats_at node) ps) ≡ old) (en : repeats_at node p ≡ new)
+  module _ (ps : List Path) (p : Path) (k : Option PathNo) (known : PathBelow (length ps) k) (old new : List Run) (eo : join (map (repeats_at node) ps) ≡ old) (en : repeats_at node p ≡ new)
       (is : named k ps ≡ cond (is_empty old) [] (first_with (longest old) node ps)) where
-    first_path : named (cond (ltb (longest old) (longest new)) (length ps + 1) k) (ps ++ (p ∷ [])) ≡ cond (is_empty (old ++ new)) [] (first_with (longest (old ++ new)) node (ps ++ (p ∷ [])))
+    first_path : named (cond (ltb (longest old) (longest new)) (Some (record { 0 = length ps })) k) (ps ++ (p ∷ [])) ≡ cond (is_empty (old ++ new)) [] (first_with (longest (old ++ new)) node (ps ++ (p ∷ [])))
     first_path = by_test (ltb (longest old) (longest new)) longer (λ e. rw e (named_less k ps p known ∙ is ∙ shorter (ltb-false (longest old) (longest new) e)))
       where
-        longer : ltb (longest old) (longest new) ≡ true → named (cond (ltb (longest old) (longest new)) (length ps + 1) k) (ps ++ (p ∷ [])) ≡ cond (is_empty (old ++ new)) [] (first_with (longest (old ++ new)) node (ps ++ (p ∷ [])))
+        longer : ltb (longest old) (longest new) ≡ true → named (cond (ltb (longest old) (longest new)) (Some (record { 0 = length ps })) k) (ps ++ (p ∷ [])) ≡ cond (is_empty (old ++ new)) [] (first_with (longest (old ++ new)) node (ps ++ (p ∷ [])))
         longer e =
             let h = ltb-true (longest old) (longest new) e in
             let l : longest (old ++ new) ≡ longest new = longest_append old new ∙ omega arith in
@@ -171,17 +168,17 @@ module _ (node : List ℕ) where
       let rs = joined_last (repeats_at node) ps p in
       record {
         visits = omega (arith, f.visits, s.visits, h.visits, total_last (visits node) ps p);
-        paths = f.paths ∙ rw (ne_eqb c.last (length ps + 1) (λ e. omega (arith, h.last)), s.some, h.paths, count_last) (bit_cond (count (λ q. any (on node) q.steps) ps) (any (on node) p.steps));
-        last = simp length-append (f.last (omega (arith, h.last)));
+        paths = f.paths ∙ rw (below_other _ c.last h.last, s.some, h.paths, count_last) (bit_cond (count (λ q. any (on node) q.steps) ps) (any (on node) p.steps));
+        last = simp length-append (f.last (below_more _ _ c.last (omega arith) h.last));
         adjacent = omega (arith, f.adjacent, s.adjacent, h.adjacent, total_last (λ p. pairs (λ s t. on node s && on node t) p.steps) ps p);
         equal = omega (arith, f.equal, s.equal, h.equal, total_last (λ p. pairs (λ s t. on node s && same_step s t) p.steps) ps p);
         runs = f.runs ∙ rw (rs, length-append, h.runs);
         longest = f.longest ∙ rw (rs, longest_append, h.longest);
         first = rw (f.first, rs, h.longest) (first_path ps p c.first h.known (join (map (repeats_at node) ps)) (repeats_at node p) refl refl h.first);
-        known = simp length-append (rw f.first (cond_le (ltb c.longest (longest (repeats_on node (runs p.steps)))) (omega arith) (omega (arith, h.known))));
+        known = simp length-append (rw f.first (below_either _ _ _ (ltb c.longest (longest (repeats_on node (runs p.steps)))) (omega arith) (below_more _ _ c.first (omega arith) h.known)));
       }
 
   -- no path
   pub counted_none : CounterOf node [] no_counter
   unfolding total sum count join longest is_empty named
-  counted_none = record { visits = refl; paths = refl; last = omega arith; adjacent = refl; equal = refl; runs = refl; longest = refl; first = refl; known = omega arith }
+  counted_none = record { visits = refl; paths = refl; last = tt; adjacent = refl; equal = refl; runs = refl; longest = refl; first = refl; known = tt }

@@ -6,7 +6,7 @@ use mathlib.Core.Bool.{Bool, true, false, cond}
 use mathlib.Core.List.{List, [], ◌∷◌}
 use mathlib.Core.Logic.{inl}
 use mathlib.Core.Path.{◌≡◌, refl, sym, ap, ◌∙◌}
-use lib.Dec.{eqb, leb}
+use lib.Dec.{leb}
 use lib.ListN.{length}
 use Rattle.std.specs.Prelude.{Option, Some, None}
 use Rattle.gfa_spec.specs.Bytes.{same}
@@ -17,7 +17,7 @@ use Rattle.gfa_spec.proofs.Counting.{bit_small}
 use Rattle.gfa_spec.proofs.Runs.{extend_first}
 use Rattle.scan.specs.Places.{part_at, bytes_in}
 use Rattle.scan.specs.Orientations.{sign_of}
-use Rattle.work.specs.Rows.{span, Small}
+use Rattle.work.specs.Rows.{span, Small, word_of}
 use Rattle.work.proofs.Rows.{KeptWords, only_none, only_then, only_kept}
 use Rattle.tables.specs.declared.tables.Bases.{Bases}
 use Rattle.tables.specs.declared.tables.Counts.{Counts}
@@ -28,8 +28,9 @@ use Rattle.runs.specs.Runs.{RunFrom}
 use Rattle.tables.proofs.ByNumber.{readable_stands, steps_none, steps_next}
 use Rattle.report_spec.specs.Nodes.{on}
 use Rattle.nodes.specs.declared.counters.Counter.{Counter}
-use Rattle.nodes.specs.Counters.{is_longer, counted_of, counter_words, CounterFits, goes_on, finish}
+use Rattle.nodes.specs.Counters.{is_path, is_longer, counted_of, counter_words, CounterFits, goes_on, finish}
 use Rattle.nodes.specs.Table.{nodes_end, node_no, counter_no, name_no, RowPut, SearchIs}
+use Rattle.nodes.proofs.Paths.{below_more, below_word}
 use Rattle.nodes.proofs.Counting.{finish_here, finish_elsewhere}
 use Rattle.nodes.proofs.Stored.{node_other, counter_other, put_within}
 use Rattle.nodes.proofs.Finding.{found, nowhere}
@@ -76,13 +77,13 @@ module _ {left times path : ℕ} {c : Counter} (more : Bool) (f : CounterFits (l
         equal = omega (arith, f.equal);
         runs = omega (arith, f.runs, repeat_le times t);
         longest = by_test (is_longer c times) (λ e. rw e (omega arith)) (λ e. rw e (omega (arith, f.longest)));
-        paths = by_test (eqb c.last (path + 1)) (λ e. rw e (omega (arith, f.paths))) (λ e. rw e (omega (arith, f.paths)));
+        paths = by_test (is_path c.last path) (λ e. rw e (omega (arith, f.paths))) (λ e. rw e (omega (arith, f.paths)));
         first = by_test (is_longer c times) (λ e. rw e (omega arith)) (λ e. rw e f.first);
       }
 
 -- with less left, or a later path, they fit too
 fits_less : {left path less later : ℕ} {c : Counter} → CounterFits left path c → less ≤ left → path ≤ later → CounterFits less later c
-fits_less f h k = record { visits = omega (arith, f.visits); paths = f.paths; adjacent = f.adjacent; equal = f.equal; runs = f.runs; longest = f.longest; first = omega (arith, f.first) }
+fits_less {c = c} f h k = record { visits = omega (arith, f.visits); paths = f.paths; adjacent = f.adjacent; equal = f.equal; runs = f.runs; longest = f.longest; first = below_more _ _ c.first (omega arith) f.first }
 
 pub fit_less : {left path less later : ℕ} {w : List ℕ} {table m : ℕ} → FitRows left path w table m → less ≤ left → path ≤ later → FitRows less later w table m
 fit_less f h k = record { row = λ i l. fits_less (f.row i l) h k }
@@ -92,17 +93,18 @@ pub counted_small : {times path : ℕ} {c : Counter} (more : Bool) → CounterFi
 counted_small {times} {path} {c} more f t p =
     let none : 0 + times ≡ times = omega arith in
     let g : CounterFits 0 path (counted_of c times path more) = fits_more more (rw none f) t in
-    (omega (arith, g.visits), (omega (arith, g), (omega arith, (omega (arith, g), (omega (arith, g), (omega (arith, g), (omega (arith, g), (omega (arith, g), tt))))))))
+    let first = below_word _ (counted_of c times path more).first g.first in
+    (omega (arith, g.visits), (omega (arith, g), (unfold word_of in omega arith, (omega (arith, g), (omega (arith, g), (omega (arith, g), (omega (arith, g), (omega (arith, first), tt))))))))
 
 -- ---- a run
 
--- the row of the node that has the name: it stands in the work area, and its counters fit
+-- up to the node that has the name, rows stand in the work area, and their counters fit
 module _ {text w : List ℕ} {table m k : ℕ} {name : Place} {q : Option ℕ} (f : SearchIs text w table m name q) (g : q ≡ Some k) where
   pub run_room : Countable text w table m → nodes_end table (k + 1) ≤ length w
   run_room c = omega (arith, c.names.room, found f g)
 
-  pub run_fits_here : {times path : ℕ} {c : Counter} → FitRows times path w table m → c ≡ counter_no w table k → CounterFits times path c
-  run_fits_here e z = rw z (e.row k (found f g).below)
+  pub run_fits_here : {times path j : ℕ} {c : Counter} → FitRows times path w table m → c ≡ counter_no w table j → j ≤ k → CounterFits times path c
+  run_fits_here {j = j} e z l = rw z (e.row j (omega (arith, found f g)))
 
 module _ {text w : List ℕ} {table m : ℕ} {name : Place} {q : Option ℕ} {times path : ℕ} {more : Bool} (f : SearchIs text w table m name q) where
   pub run_nowhere : q ≡ None → RunCounted text w w table m name times path more

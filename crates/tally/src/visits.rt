@@ -33,7 +33,7 @@ pub fn count_run(
         return;
     };
     let c = counter_at(work, table, k);
-    put_counter(work, table, k, counted(c, times, path.0 as usize, more));
+    put_counter(work, table, k, counted(c, times, path, more));
 }
 
 // Is step `r`, of those before step `end`, on the node of this name?

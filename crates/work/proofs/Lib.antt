@@ -3,3 +3,4 @@ pub mod Stores
 pub mod Rows
 pub mod RowCuts
 pub mod Filling
+pub mod Words

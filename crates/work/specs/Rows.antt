@@ -23,6 +23,11 @@ unfoldable pub word_of : Option ℕ → ℕ
 word_of None = 0
 word_of (Some k) = suc k
 
+-- the number that a word stands for: the word less one, or none for 0
+unfoldable pub number_in : ℕ → Option ℕ
+number_in zero = None
+number_in (suc k) = Some k
+
 -- ---- what is kept
 
 -- A range of words: from the first up to, not including, the last.

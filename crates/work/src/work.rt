@@ -1,7 +1,7 @@
 // The work area: words that are read, rows that are stored.
 ghost use Rattle.std.specs.Prelude.{◌≡◌, ◌+◌, ◌≤◌, ◌<◌, length, get_or, replicate};
 ghost use Rattle.std.proofs.lemmas.List.Edits.{sets};
-ghost use Rattle.work.specs.Rows.{Small, Cleared};
+ghost use Rattle.work.specs.Rows.{Small, Cleared, word_of, number_in};
 
 // A word of the work area.
 pub fn word(work: &[u32], i: usize) -> usize
@@ -9,6 +9,26 @@ pub fn word(work: &[u32], i: usize) -> usize
     ensures { result ≡ get_or work.now i 0 }
 {
     work[i] as usize
+}
+
+// The number that a word stands for: the word less one, or none for 0.
+#[tactic(auto, using(crate::proofs::Words::number_told))]
+pub fn number_in(word: u32) -> Option<u32>
+    ensures { result ≡ number_in word }
+{
+    word.checked_sub(1)
+}
+
+// The word for a number that may be missing: the number plus one, or 0 for none.
+#[tactic(auto, unfolding(crate::specs::Rows::word_of))]
+pub fn word_of(number: Option<usize>) -> usize
+    requires { word_of number < 4294967296 }
+    ensures { result ≡ word_of number }
+{
+    match number {
+        Some(k) => k + 1,
+        None => 0,
+    }
 }
 
 // Makes every word of the work area 0.

@@ -7,4 +7,4 @@ returns c =
     let pre = c.requires in
     let put-row = c.put_row in
     let put-counter = c.put_counter in
-    put_again (put_words pre.0 (rw c.number_word.ensures at put-row.ensures)) put-counter.ensures
+    put_again (put_words pre.0 (rw c.segment_word.ensures at put-row.ensures)) put-counter.ensures

@@ -9,7 +9,7 @@ returns c =
     let gone = bit_byte _ c.from.ensures in
     record {
       words = ends_told c.put_row.new.work c.args.g c.args.i.0 c.args.r (search rules) (search rules) (search rules);
-      row = rw (← gone.0, ← c.word_for-from.ensures, ← c.word_for-to.ensures) c.put_row.ensures;
+      row = rw (← gone.0, ← c.word_of-from.ensures, ← c.word_of-to.ensures) c.put_row.ensures;
       long = search rules;
       only = search rules;
     }
