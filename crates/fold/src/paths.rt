@@ -31,7 +31,7 @@ pub fn transform_path_steps(
 {
     let mut made = m;
     let mut i = first;
-    // By runs: the next starts where this one ends.
+    // No `for` over `Runs`: each turn writes the work area, which the runs' graph would hold lent across the loop.
     while i < end {
         let graph = Graph { text, work, b, n };
         let next = run_from(&graph, i, end);

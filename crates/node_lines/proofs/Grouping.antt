@@ -19,7 +19,9 @@ use Rattle.nodes.specs.declared.nodes.NodeWords.{NodeWords}
 use Rattle.nodes.specs.Table.{nodes_end, node_no, NodeRead}
 use Rattle.node_lines.specs.declared.buckets.Group.{Group}
 use Rattle.ranks.specs.Ranking.{word_at, nums_at}
-use Rattle.node_lines.specs.Groups.{buckets, bucket_of, Rising, RowNumbers, long_of, group_links, GroupIs, BucketIs, Sized, BucketsIs}
+use Rattle.node_lines.specs.declared.buckets.Groups.{Groups}
+use Rattle.node_lines.specs.Groups.{buckets, bucket_of, Rising, RowNumbers, long_of, group_links, GroupIs, Sized, BucketsIs}
+use Rattle.node_lines.specs.GroupsLeft.{GroupsOf, FirstGroup, NoGroup}
 use Rattle.tally.proofs.PathCounting.{sum_last}
 use Rattle.ranks.proofs.Merges.{nums_snoc, nums_split, nums_cons, nums_none}
 use Rattle.node_lines.proofs.Lengths.{buckets_group}
@@ -70,9 +72,10 @@ module _ {work : List ℕ} {table nums m i : ℕ} where
       unfolding long_of
       here = ap (λ a. a.long) e.is ∙ ap (λ v. (node_no work table v).long) f
 
-      pub grouping_stop : j < m → (w.long ≡ long → ⊥) → GroupIs work table nums m i (record { end = j; long = long; links = links })
+      pub grouping_stop : j < m → (w.long ≡ long → ⊥) → GroupIs work table nums m i (record { start = i; end = j; long = long; links = links })
       grouping_stop h d =
           record {
+            start = refl;
             low = beyond (ℕ_discrete i j);
             high = s.high;
             long = s.is;
@@ -102,10 +105,11 @@ module _ {work : List ℕ} {table nums m i : ℕ} where
           go k a b (yes z) = rw z (sym here ∙ d)
           go k a b (no z) = s.same k a (omega arith)
 
-    pub grouping_end : m ≤ j → GroupIs work table nums m i (record { end = m; long = long; links = links })
+    pub grouping_end : m ≤ j → GroupIs work table nums m i (record { start = i; end = m; long = long; links = links })
     grouping_end h =
         let all : j ≡ m = omega (arith, s.high) in
         record {
+          start = refl;
           low = s.start;
           high = omega arith;
           long = s.is;
@@ -114,16 +118,23 @@ module _ {work : List ℕ} {table nums m i : ℕ} where
           links = rw all at s.total;
         }
 
--- the bucket of a group
-pub bucket_is : {v w : Writer} {work : List ℕ} {table nums m i : ℕ} {g : Group} → GroupIs work table nums m i g → Puts v (end_line (bucket_of g.long (g.end - i) g.links)) w
-    → BucketIs v work table nums m i w g.end
-bucket_is q p =
+-- The bucket of a group from number i on, which ends at r, was written.
+record Bucketed (before : Writer) (work : List ℕ) (table nums m i : ℕ) (after : Writer) (r : ℕ) : Type 0 where
+  low : i < r
+  high : r ≤ m
+  same : (k : ℕ) → i ≤ k → k < r → long_of work table nums k ≡ long_of work table nums i
+  stop : r < m → long_of work table nums r ≡ long_of work table nums i → ⊥
+  puts : Puts before (end_line (bucket_of (long_of work table nums i) (r - i) (group_links work table nums i (r - i)))) after
+
+bucketed : {v w : Writer} {work : List ℕ} {table nums m i : ℕ} {g : Group} → GroupIs work table nums m i g → Puts v (end_line (bucket_of g.long (g.end - g.start) g.links)) w
+    → Bucketed v work table nums m i w g.end
+bucketed q p =
     record {
       low = q.low;
       high = q.high;
       same = λ k a b. q.same k a b ∙ q.long;
       stop = λ u z. q.stop u (z ∙ sym q.long);
-      puts = rw (q.long, q.links) at p;
+      puts = rw (q.start, q.long, q.links) at p;
     }
 
 -- ---- the buckets
@@ -176,31 +187,37 @@ pub record Front (first now : Writer) (whole rest : List ℕ) : Type 0 where
   pub puts : Puts first piece now
   pub split : whole ≡ piece ++ rest
 
--- The state at i: the buckets of the numbers before it are written.
-pub record Bucketing (first : Writer) (work : List ℕ) (table nums m : ℕ) (now : Writer) (i : ℕ) : Type 0 where
-  pub numbered : RowNumbers work table nums m
-  pub high : i ≤ m
-  pub front : (node : ℕ → Node) → Sized node work table → Rising (map node (nums_at work nums m)) →
+-- The buckets of the numbers before number i are written.
+record Written (first : Writer) (work : List ℕ) (table nums m : ℕ) (now : Writer) (i : ℕ) : Type 0 where
+  high : i ≤ m
+  front : (node : ℕ → Node) → Sized node work table → Rising (map node (nums_at work nums m)) →
       Front first now (ended (buckets (map node (nums_at work nums m)))) (ended (buckets (map node (nums_at work (nums + i) (m - i)))))
-  pub rising : (node : ℕ → Node) → Rising (map node (nums_at work nums m)) → Rising (map node (nums_at work (nums + i) (m - i)))
+  rising : (node : ℕ → Node) → Rising (map node (nums_at work nums m)) → Rising (map node (nums_at work (nums + i) (m - i)))
+
+-- The state of the loop over groups: the buckets of those before the ones that are left are written.
+pub record Bucketing (first : Writer) (work : List ℕ) (table nums m : ℕ) (now : Writer) (it : Groups) : Type 0 where
+  at : ℕ
+  ahead : GroupsOf work table nums m at it
+  written : Written first work table nums m now at
 
 module _ {first : Writer} {work : List ℕ} {table nums m : ℕ} where
-  pub bucketing_start : RowNumbers work table nums m → Bucketing first work table nums m first 0
-  bucketing_start h =
+  written_start : Written first work table nums m first 0
+  written_start =
       let a : nums + 0 ≡ nums = omega arith in
       let c : m - 0 ≡ m = omega arith in
       record {
-        numbered = h;
         high = omega arith;
         front = λ node z r. record { piece = []; puts = puts_nothing; split = rw (a, c) };
         rising = λ node r. rw (a, c) r;
       }
 
-  module _ {now : Writer} {i : ℕ} (s : Bucketing first work table nums m now i) where
-    pub bucketing_more : {after : Writer} {r : ℕ} → i < m → BucketIs now work table nums m i after r → Bucketing first work table nums m after r
-    bucketing_more {after} {r} h q =
+  pub bucketing_start : {of it : Groups} → GroupsOf work table nums m 0 of → it ≡ of → Bucketing first work table nums m first it
+  bucketing_start o e = record { at = 0; ahead = rw e o; written = written_start }
+
+  module _ {now : Writer} {i : ℕ} (s : Written first work table nums m now i) where
+    written_more : {after : Writer} {r : ℕ} → Bucketed now work table nums m i after r → Written first work table nums m after r
+    written_more {after} {r} q =
         record {
-          numbered = s.numbered;
           high = q.high;
           front = λ node z u. let f = s.front node z u in record { piece = f.piece ++ _; puts = f.puts ▷ q.puts; split = f.split ∙ rw (cut node z (s.rising node u), append_assoc) };
           rising = λ node u. rising_back (map node (nums_at work (nums + i) (r - i))) (map node (nums_at work (nums + r) (m - r))) (rw (halves node) at (s.rising node u));
@@ -241,6 +258,19 @@ module _ {first : Writer} {work : List ℕ} {table nums m : ℕ} where
                 let l : r < m = omega (arith, q.high) in
                 rw (nums_cons work nums r m l) (unfold first_node long_of in ((λ d. q.stop l (sym (z.long (get_or work (nums + r) 0)) ∙ d)), tt))
 
-    pub bucketing_end : m ≤ i → BucketsIs first work table nums m now
-    bucketing_end h =
+    written_end : m ≤ i → BucketsIs first work table nums m now
+    written_end h =
         record { puts = λ node z u. let f = s.front node z u in as_piece (sym (f.split ∙ rw (nums_none work nums i m h) (unfold buckets lengths ended join in append-nil f.piece))) f.puts }
+
+  module _ {now : Writer} {it it' : Groups} (s : Bucketing first work table nums m now it) where
+    module _ {g : Group} (f : FirstGroup it g it') where
+      its_group : GroupIs work table nums m s.at g
+      its_group = let a = s.ahead in rw (a.its_work, a.its_table, a.its_nums, a.its_count, a.its_first) at f.group
+
+      pub bucketing_more : {after : Writer} → Puts now (end_line (bucket_of g.long (g.end - g.start) g.links)) after → Bucketing first work table nums m after it'
+      bucketing_more p =
+          let a = s.ahead in
+          record { at = g.end; ahead = rw (a.its_work, a.its_table, a.its_nums, a.its_count) at f.left; written = written_more s.written (bucketed its_group p) }
+
+    pub bucketing_end : NoGroup it it' → BucketsIs first work table nums m now
+    bucketing_end n = let a = s.ahead in written_end s.written (rw (a.its_count, a.its_first) at n.none)

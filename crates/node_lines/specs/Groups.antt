@@ -1,6 +1,6 @@
 -- Buckets, and the groups of nodes that they are written for.
 use Rattle.std.specs.Prelude.{ℕ, ◌+◌, ◌-◌, ◌≤◌, ◌<◌, List, [], ◌∷◌, map, ◌≡◌, length, get_or}
-use Rattle.gfa_spec.specs.Bytes.{bytes, sum, join_with, end_line, ended, Each}
+use Rattle.gfa_spec.specs.Bytes.{bytes, sum, join_with, ended, Each}
 use Rattle.gfa_spec.specs.Decimal.{decimal}
 use Rattle.writers.specs.declared.writer.Writer.{Writer}
 use Rattle.writers.specs.Writers.{Puts}
@@ -39,20 +39,13 @@ group_links work table nums i n = sum (map (λ k. (node_no work table k).links) 
 
 -- The numbers from i up to the end have one length, and the next, if there is one, has another.
 pub record GroupIs (work : List ℕ) (table nums m i : ℕ) (g : Group) : Type 0 where
+  pub start : g.start ≡ i
   pub low : i < g.end
   pub high : g.end ≤ m
   pub long : g.long ≡ long_of work table nums i
   pub same : (k : ℕ) → i ≤ k → k < g.end → long_of work table nums k ≡ g.long
   pub stop : g.end < m → long_of work table nums g.end ≡ g.long → ⊥
   pub links : g.links ≡ group_links work table nums i (g.end - i)
-
--- The bucket of such a group, which ends at r, was written.
-pub record BucketIs (before : Writer) (work : List ℕ) (table nums m i : ℕ) (after : Writer) (r : ℕ) : Type 0 where
-  pub low : i < r
-  pub high : r ≤ m
-  pub same : (k : ℕ) → i ≤ k → k < r → long_of work table nums k ≡ long_of work table nums i
-  pub stop : r < m → long_of work table nums r ≡ long_of work table nums i → ⊥
-  pub puts : Puts before (end_line (bucket_of (long_of work table nums i) (r - i) (group_links work table nums i (r - i)))) after
 
 -- A node for each number, with the length and the self-links of its row.
 pub record Sized (node : ℕ → Node) (work : List ℕ) (table : ℕ) : Type 0 where

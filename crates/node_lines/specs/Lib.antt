@@ -1,3 +1,4 @@
 -- What the contracts of the nodes' lines say.
 pub mod NodeLines
 pub mod Groups
+pub mod GroupsLeft

@@ -2,16 +2,17 @@
 ghost use Rattle.std.specs.Prelude.{◌+◌, ◌≤◌, ◌<◌};
 ghost use Rattle.gfa_spec.specs.Bytes.{end_line};
 ghost use Rattle.writers.specs.Writers.{Puts};
-ghost use Rattle.node_lines.specs.Groups.{bucket_of, RowNumbers, GroupIs, BucketIs, BucketsIs};
+ghost use Rattle.node_lines.specs.Groups.{bucket_of, RowNumbers, GroupIs, BucketsIs};
 
 use nodes::nodes::node_at;
 use work::work::word;
 use writers::numbers::put_decimal;
 use writers::writer::Writer;
 
-// A group: where it ends, its nodes' length and their self-links.
+// A group: where it starts and ends, its nodes' length and their self-links.
 #[derive(Clone, Copy)]
 pub struct Group {
+    pub start: usize,
     pub end: usize,
     pub long: usize,
     pub links: usize,
@@ -41,6 +42,7 @@ pub fn group_at(work: &[u32], table: usize, nums: usize, m: usize, i: usize) -> 
         let here = node_at(work, table, word(work, nums + j));
         if here.long != long {
             return Group {
+                start: i,
                 end: j,
                 long,
                 links,
@@ -49,27 +51,62 @@ pub fn group_at(work: &[u32], table: usize, nums: usize, m: usize, i: usize) -> 
         links += here.links;
     }
     Group {
+        start: i,
         end: m,
         long,
         links,
     }
 }
 
-// Writes the bucket that starts at number `i`; answers where its group ends.
-pub fn put_bucket(
-    w: &mut Writer,
-    work: &[u32],
+// The groups that are left, from number `at` on, of the `m` numbers from the word `nums` on.
+#[derive(Drop)]
+pub struct Groups<'a> {
+    work: &'a [u32],
     table: usize,
     nums: usize,
     m: usize,
-    i: usize,
-) -> usize
-    requires { RowNumbers work.now table nums m × (i < m) }
-    ensures { BucketIs w.old work.now table nums m i w.new result }
-{
-    let g = group_at(work, table, nums, m, i);
-    put_bucket_line(w, g.long, g.end - i, g.links);
-    g.end
+    at: usize,
+    ghost numbered: { RowNumbers work.now table nums m },
+}
+
+impl<'a> Groups<'a> {
+    ghost use Rattle.node_lines.specs.GroupsLeft.{GroupsOf};
+
+    // All groups.
+    pub fn of(work: &'a [u32], table: usize, nums: usize, m: usize) -> Groups<'a>
+        requires { RowNumbers work.now table nums m }
+        ensures { GroupsOf work.now table nums m 0 result }
+    {
+        Groups {
+            work,
+            table,
+            nums,
+            m,
+            at: 0,
+        }
+    }
+}
+
+impl<'a> Iterator for Groups<'a> {
+    ghost use Rattle.std.specs.Prelude.{◌-◌};
+    ghost use Rattle.std.specs.Iterator.{at_most};
+    ghost use Rattle.node_lines.specs.GroupsLeft.{GroupGiven};
+
+    type Item = Group;
+
+    ghost next_gives = { GroupGiven };
+
+    ghost remaining = { λ s. at_most (s.m - s.at) };
+
+    #[inline]
+    fn next(&mut self) -> Option<Group> {
+        if self.m <= self.at {
+            return None;
+        }
+        let g = group_at(self.work, self.table, self.nums, self.m, self.at);
+        self.at = g.end;
+        Some(g)
+    }
 }
 
 // Writes all buckets of the `m` nodes whose numbers stand from the word `nums` on.
@@ -77,9 +114,7 @@ pub fn put_buckets(w: &mut Writer, work: &[u32], table: usize, nums: usize, m: u
     requires { RowNumbers work.now table nums m }
     ensures { BucketsIs w.old work.now table nums m w.new }
 {
-    let mut i = 0;
-    // By groups, not by ones.
-    while i < m {
-        i = put_bucket(w, work, table, nums, m, i);
+    for g in Groups::of(work, table, nums, m) {
+        put_bucket_line(w, g.long, g.end - g.start, g.links);
     }
 }

@@ -1,5 +1,5 @@
 -- Totals over runs. Assumes nothing.
-use Prim.Native.Nat.{ℕ, ◌+◌, ◌*◌, ◌-◌, ◌≤◌}
+use Prim.Native.Nat.{ℕ, ◌+◌, ◌*◌, ◌-◌, ◌≤◌, ◌<◌}
 use native.Mathlib.Omega.{arith}
 use mathlib.Core.List.{List, ◌∷◌, map}
 use mathlib.Core.Path.{◌≡◌, refl, sym, ap, subst, ◌∙◌}
@@ -12,7 +12,11 @@ use Rattle.tables.specs.declared.tables.Bases.{Bases}
 use Rattle.tables.specs.declared.tables.Counts.{Counts}
 use Rattle.tables.specs.declared.rows.PathWords.{PathWords}
 use Rattle.tables.specs.ByNumber.{path_no, step_no, paths_to, steps_from, PathIs}
+use Rattle.std.specs.declared.ops.Range.{Range}
+use Rattle.runs.specs.declared.runs.Runs.{Runs}
 use Rattle.runs.specs.Runs.{RunFrom}
+use Rattle.runs.specs.RunsLeft.{RunsOf, FirstRun, NoRun}
+use Rattle.runs.proofs.RunsLeft.{given_start, given_run, given_left, given_none}
 use Rattle.tables.specs.Tables.{Readable}
 use Rattle.tables.proofs.ByNumber.{paths_zero, paths_more, steps_none}
 use Rattle.report_spec.specs.Nodes.{repeats, longest as longest_of}
@@ -38,20 +42,26 @@ run_more t r rs =
 run_few : (t : Repeats) (times : ℕ) → (with_run t times).runs ≤ t.runs + 1
 run_few t times = by_test (leb 2 times) (λ e. rw e (omega arith)) (λ e. rw e (omega arith))
 
--- The state at step i: the runs before it are counted.
-pub record Repeating (text work : List ℕ) (b : Bases) (first end : ℕ) (before t : Repeats) (i : ℕ) : Type 0 where
-  pub low : first ≤ i
-  pub high : i ≤ end
-  pub few : t.runs ≤ before.runs + (i - first)
-  pub left : repeats_with before (runs_of (steps_from text work b first end)) ≡ repeats_with t (runs_of (steps_from text work b i end))
+-- The runs before step i are counted.
+record Repeated (text work : List ℕ) (b : Bases) (first end : ℕ) (before t : Repeats) (i : ℕ) : Type 0 where
+  low : first ≤ i
+  high : i ≤ end
+  few : t.runs ≤ before.runs + (i - first)
+  left : repeats_with before (runs_of (steps_from text work b first end)) ≡ repeats_with t (runs_of (steps_from text work b i end))
+
+-- The state of the loop over runs: those before the ones that are left are counted.
+pub record Repeating (text work : List ℕ) (b : Bases) (first end : ℕ) (before t : Repeats) (it : Runs) : Type 0 where
+  at : ℕ
+  ahead : RunsOf text work b at end it
+  counted : Repeated text work b first end before t at
 
 module _ {text work : List ℕ} {b : Bases} {first end : ℕ} {before : Repeats} where
-  pub repeating_start : first ≤ end → Repeating text work b first end before before first
-  repeating_start h = record { low = omega arith; high = h; few = omega arith; left = refl }
+  pub repeating_start : {of it : Runs} → first ≤ end → RunsOf text work b first end of → it ≡ of → Repeating text work b first end before before it
+  repeating_start h r e = record { at = first; ahead = rw e r; counted = record { low = omega arith; high = h; few = omega arith; left = refl } }
 
-  module _ {t : Repeats} {i : ℕ} (s : Repeating text work b first end before t i) where
-    pub repeating_more : {r : ℕ} {u : Repeats} → RunFrom text work b i end r → u ≡ with_run t (r - i) → Repeating text work b first end before u r
-    repeating_more {r} {u} q e =
+  module _ {t : Repeats} {i : ℕ} (s : Repeated text work b first end before t i) where
+    repeated_more : {r : ℕ} {u : Repeats} → RunFrom text work b i end r → u ≡ with_run t (r - i) → Repeated text work b first end before u r
+    repeated_more {r} {u} q e =
         record {
           low = omega (arith, s.low, q.low);
           high = q.high;
@@ -59,12 +69,26 @@ module _ {text work : List ℕ} {b : Bases} {first end : ℕ} {before : Repeats}
           left = s.left ∙ ap (repeats_with t) q.first ∙ run_more t (record { step = step_no text work b i; count = r - i }) (runs_of (steps_from text work b r end)) ∙ rw e;
         }
 
-    pub repeating_end : end ≤ i → RepeatsIs text work b first end before t
-    unfolding runs_of keep longest_of
-    repeating_end h =
+  module _ {t : Repeats} {it : Runs} (s : Repeating text work b first end before t it) where
+    -- there is room for one run more
+    pub repeating_few : before.runs + end < 4611686018427387904 → t.runs < 4611686018427387904
+    repeating_few h = omega (arith, s.counted.few, s.counted.high)
+
+    pub repeating_more : {it' : Runs} {r : Range ℕ} {u : Repeats} {times : ℕ} → FirstRun it r it' → times ≡ r.end - r.start → u ≡ with_run t times → Repeating text work b first end before u it'
+    repeating_more {r} f n e =
         record {
-          is = sym (s.left ∙ rw (steps_none text work b i end h) (same_repeats (omega arith) (omega arith)));
-          few = omega (arith, s.few, s.high);
+          at = r.end;
+          ahead = given_left s.ahead f;
+          counted = repeated_more s.counted (given_run s.ahead f) (rw (n, given_start s.ahead f) at e);
+        }
+
+    pub repeating_end : {it' : Runs} → NoRun it it' → RepeatsIs text work b first end before t
+    unfolding runs_of keep longest_of
+    repeating_end n =
+        let q = s.counted in
+        record {
+          is = sym (q.left ∙ rw (steps_none text work b s.at end (given_none s.ahead n)) (same_repeats (omega arith) (omega arith)));
+          few = omega (arith, q.few, q.high);
         }
 
 -- ---- of all paths

@@ -6,6 +6,7 @@ ghost use Rattle.tables.specs.ByNumber.{step_of};
 ghost use Rattle.runs.specs.Runs.{RunFrom};
 
 use scan::names::same_name;
+use std::ops::Range;
 use tables::graph::Graph;
 use tables::rows::StepWords;
 
@@ -43,4 +44,51 @@ pub fn run_from(graph: &Graph, i: usize, end: usize) -> usize
         }
     }
     end
+}
+
+// The maximal runs of equal steps that are left, of the steps before step `end`: each by its steps, from the first up to the run's end.
+#[derive(Drop)]
+pub struct Runs<'a, 'g> {
+    graph: &'a Graph<'g>,
+    at: usize,
+    end: usize,
+    ghost inside: { end ≤ graph.now.n.steps },
+}
+
+impl<'a, 'g> Runs<'a, 'g> {
+    ghost use Rattle.runs.specs.RunsLeft.{RunsOf};
+
+    // Those of the steps from `first` up to `end`.
+    pub fn of(graph: &'a Graph<'g>, first: usize, end: usize) -> Runs<'a, 'g>
+        requires { end ≤ graph.now.n.steps }
+        ensures { RunsOf graph.now.text.now graph.now.work.now graph.now.b first end result }
+    {
+        Runs {
+            graph,
+            at: first,
+            end,
+        }
+    }
+}
+
+impl<'a, 'g> Iterator for Runs<'a, 'g> {
+    ghost use Rattle.std.specs.Prelude.{◌-◌};
+    ghost use Rattle.std.specs.Iterator.{at_most};
+    ghost use Rattle.runs.specs.RunsLeft.{RunGiven};
+
+    type Item = Range<usize>;
+
+    ghost next_gives = { RunGiven };
+
+    ghost remaining = { λ s. at_most (s.end - s.at) };
+
+    #[inline]
+    fn next(&mut self) -> Option<Range<usize>> {
+        if self.end <= self.at {
+            return None;
+        }
+        let start = self.at;
+        self.at = run_from(self.graph, start, self.end);
+        Some(start..self.at)
+    }
 }

@@ -83,7 +83,7 @@ pub fn count_path(
     ensures { PathCounted text.now work.old work.new b n m first end path.0 }
 {
     let mut i = first;
-    // By runs, not by ones.
+    // No `for` over `Runs`: each turn writes the work area, which the runs' graph would hold lent across the loop.
     while i < end {
         i = count_next(text, work, b, n, m, i, end, path);
     }

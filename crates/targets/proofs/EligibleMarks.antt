@@ -5,13 +5,14 @@ use mathlib.Core.Bool.{Bool, true, false, ◌&&◌}
 use mathlib.Core.List.{List, [], ◌∷◌}
 use mathlib.Core.Path.{◌≡◌, refl, sym, ◌∙◌}
 use lib.Dec.{eqb, leb}
+use mir.Val.{bool_byte}
 use lib.ListN.{length, get_or, set, length-set}
 use borrow.Author.Tests.{eq-eqb, ne_eqb}
 use Rattle.gfa_spec.specs.Bytes.{same, star, is_empty, any}
 use Rattle.gfa_spec.specs.Records.{is_self_link}
 use Rattle.gfa_spec.specs.Runs.{bit}
 use Rattle.gfa_spec.proofs.Tests.{by_test, both, clash, refute, equal_same, same_equal, same_sym}
-use Rattle.gfa_spec.proofs.Counting.{bit_set}
+use Rattle.gfa_spec.proofs.Counting.{bit_set, bit_byte}
 use Rattle.normalize_spec.specs.Folding.{self_linked, within, is_unit}
 use Rattle.normalize_spec.proofs.Marks.{linked_snoc}
 use Rattle.scan.specs.Places.{bytes_in}
@@ -118,17 +119,17 @@ pub record Leaving (cap : ℕ) (text before work : List ℕ) (b : Bases) (n : Co
   pub stored : Filling (unit_at cap text before b marks) before work marks n.segs i
 
 module _ {cap : ℕ} {text before : List ℕ} {b : Bases} {n : Counts} {marks : ℕ} where
-  pub leaving_more : {work : List ℕ} {i mark x : ℕ} {r : SegmentWords} {u : Bool} {unit : List ℕ} → Leaving cap text before work b n marks i → i < n.segs → SegmentIs text work b i r
-      → mark ≡ get_or work (marks + i) 0 → unit ≡ bytes_in text r.sequence → u ≡ is_unit cap unit → (x ≡ bit (eqb mark 1 && u)) × (x ≤ 1)
+  pub leaving_more : {work : List ℕ} {i x : ℕ} {r : SegmentWords} {t : Bool} → Leaving cap text before work b n marks i → i < n.segs → SegmentIs text work b i r
+      → t ≡ (eqb (get_or work (marks + i) 0) 1 && is_unit cap (bytes_in text r.sequence)) → x ≡ bool_byte t
       → Leaving cap text before (set work (marks + i) x) b n marks (i + 1)
-  leaving_more {work} {i} {mark} {x} s h q em es eu ex =
+  leaving_more {work} {i} {x} {t = t} s h q et ex =
       let behind = s.markable.behind in
       let tables : TablesKept b n before work = record { word = λ j l u. filling_behind s.stored j (omega arith) } in
       let here = sym (segment_stands s.markable.readable tables i h) ∙ q.segment in
       record {
         markable = s.markable;
         ready = markable_stands s.ready (only_set work (marks + i) x (omega arith) (omega arith)) (length-set work (marks + i) x);
-        stored = filling_more s.stored x h (ex.0 ∙ rw (eu, es, em, here, filling_ahead s.stored (marks + i) (omega arith)));
+        stored = filling_more s.stored x h ((bit_byte t ex).0 ∙ rw (et, here, filling_ahead s.stored (marks + i) (omega arith)));
       }
 
   pub leaving_end : {work : List ℕ} {i : ℕ} → Leaving cap text before work b n marks i → n.segs ≤ i → UnitsKept cap text before work b n marks

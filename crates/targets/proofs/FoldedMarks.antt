@@ -7,13 +7,14 @@ use mathlib.Core.List.{List, [], ◌∷◌, ◌++◌, append_assoc}
 use mathlib.Core.Logic.{inl}
 use mathlib.Core.Path.{◌≡◌, refl, sym, ◌∙◌}
 use lib.Dec.{eqb}
+use mir.Val.{bool_byte}
 use lib.ListN.{length, get_or, set}
 use borrow.Author.Tests.{le-leb, lt-leb}
 use Rattle.gfa_spec.specs.Bytes.{any, count as count_of}
 use Rattle.gfa_spec.specs.Reading.{Segment}
 use Rattle.gfa_spec.specs.Runs.{Run, runs, is_repeat, bit}
 use Rattle.gfa_spec.proofs.Tests.{same_sym, any_append}
-use Rattle.gfa_spec.proofs.Counting.{bit_set, count_one, count_append}
+use Rattle.gfa_spec.proofs.Counting.{bit_byte, bit_set, count_one, count_append}
 use Rattle.scan.specs.Places.{part_at, bytes_in}
 use Rattle.normalize_spec.specs.Folding.{repeats_on}
 use Rattle.work.specs.Rows.{span, Only, Cleared}
@@ -123,16 +124,17 @@ module _ {before : List ℕ} {g : Layout} {count : ℕ} where
   keeping_start h = record { ahead = h.0; small = h.2; stored = filling_start h.1; sum = refl; few = omega arith }
 
   module _ {work : List ℕ} {i total : ℕ} (s : Keeping before work g count i total) where
-    pub keeping_more : {e f x : ℕ} → i < count → e ≡ get_or work (g.eligible + i) 0 → f ≡ get_or work (g.folded + i) 0 → (x ≡ bit (eqb e 1 && eqb f 1)) × (x ≤ 1)
-        → Keeping before (set work (g.folded + i) x) g count (i + 1) (total + x)
-    keeping_more {e} {f} {x} h ee ef ex =
-        let here : x ≡ both_at before g i = ex.0 ∙ rw (ee, ef, filling_behind s.stored (g.eligible + i) (omega (arith, s.ahead)), filling_ahead s.stored (g.folded + i) (omega arith)) in
+    pub keeping_more : {x y : ℕ} {t : Bool} → i < count → t ≡ (eqb (get_or work (g.eligible + i) 0) 1 && eqb (get_or work (g.folded + i) 0) 1) → x ≡ bool_byte t → y ≡ bool_byte t
+        → Keeping before (set work (g.folded + i) x) g count (i + 1) (total + y)
+    keeping_more {x} {y} {t} h et ex ey =
+        let one = bit_byte t ey in
+        let here : bit t ≡ both_at before g i = rw (et, filling_behind s.stored (g.eligible + i) (omega (arith, s.ahead)), filling_ahead s.stored (g.folded + i) (omega arith)) in
         record {
           ahead = s.ahead;
           small = s.small;
-          stored = filling_more s.stored x h here;
-          sum = rw (add-one, s.sum, here) (unfold sum_to in refl);
-          few = omega (arith, s.few, ex.1);
+          stored = filling_more s.stored x h ((bit_byte t ex).0 ∙ here);
+          sum = rw (add-one, s.sum, one.0 ∙ here) (unfold sum_to in refl);
+          few = omega (arith, s.few, one.1);
         }
 
 -- marks are counted

@@ -21,7 +21,11 @@ use Rattle.tables.specs.declared.entry.SegmentNo.{SegmentNo}
 use Rattle.tables.specs.declared.rows.PathWords.{PathWords}
 use Rattle.tables.specs.declared.rows.StepWords.{StepWords}
 use Rattle.tables.specs.ByNumber.{segments_of, paths_to, paths_from, steps_from, PathIs, StepIs, NamedIs}
+use Rattle.std.specs.declared.ops.Range.{Range}
+use Rattle.runs.specs.declared.runs.Runs.{Runs}
 use Rattle.runs.specs.Runs.{RunFrom}
+use Rattle.runs.specs.RunsLeft.{RunsOf, FirstRun, NoRun}
+use Rattle.runs.proofs.RunsLeft.{given_start, given_run, given_left, given_none}
 use Rattle.tables.proofs.ByNumber.{paths_next, paths_none, steps_none}
 use Rattle.normalize_tables.specs.declared.layout.Layout.{Layout}
 use Rattle.normalize_tables.specs.Marks.{Marked}
@@ -91,20 +95,27 @@ pub record Looking (text work : List ℕ) (b : Bases) (n : Counts) (marks p : �
   pub left : (t : Segment → Bool) → Marked t text work b n marks
       → any (has_hit t (segments_of text work b n)) (paths_to text work b n.paths) ≡ any (has_hit t (segments_of text work b n)) (paths_from text work b n p)
 
--- The state at step i of path p, whose steps end before step `end`: nor has that path one before the step.
-pub record Walking (text work : List ℕ) (b : Bases) (n : Counts) (marks p end i : ℕ) : Type 0 where
-  pub markable : Markable text work b n marks
-  pub here : p < n.paths
-  pub high : i ≤ end
-  pub inside : end ≤ n.steps
-  pub left : (t : Segment → Bool) → Marked t text work b n marks
+-- At step i of path p, whose steps end before step `end`: nor has that path one before the step.
+record Walked (text work : List ℕ) (b : Bases) (n : Counts) (marks p end i : ℕ) : Type 0 where
+  markable : Markable text work b n marks
+  here : p < n.paths
+  high : i ≤ end
+  inside : end ≤ n.steps
+  left : (t : Segment → Bool) → Marked t text work b n marks
       → any (has_hit t (segments_of text work b n)) (paths_to text work b n.paths)
       ≡ (any (is_hit t (segments_of text work b n)) (runs (steps_from text work b i end)) || any (has_hit t (segments_of text work b n)) (paths_from text work b n (p + 1)))
 
+-- The state of the loop over the runs of path p: the path has none before those that are left.
+pub record Walking (text work : List ℕ) (b : Bases) (n : Counts) (marks p : ℕ) (it : Runs) : Type 0 where
+  at : ℕ
+  end : ℕ
+  ahead : RunsOf text work b at end it
+  walked : Walked text work b n marks p end at
+
 module _ {text work : List ℕ} {b : Bases} {n : Counts} {marks : ℕ} where
   module _ {p : ℕ} (s : Looking text work b n marks p) where
-    pub walking_start : {r : PathWords} → p < n.paths → PathIs text work b n p r → Walking text work b n marks p r.end r.first
-    walking_start h q =
+    walked_start : {r : PathWords} → p < n.paths → PathIs text work b n p r → Walked text work b n marks p r.end r.first
+    walked_start h q =
         record {
           markable = s.markable;
           here = h;
@@ -118,10 +129,10 @@ module _ {text work : List ℕ} {b : Bases} {n : Counts} {marks : ℕ} where
     unfolding any
     looking_end h t q = sym (s.left t q ∙ rw (paths_none text work b n p h))
 
-  module _ {p end i : ℕ} (s : Walking text work b n marks p end i) where
-    pub walking_end : end ≤ i → Looking text work b n marks (p + 1)
+  module _ {p end i : ℕ} (s : Walked text work b n marks p end i) where
+    walked_end : end ≤ i → Looking text work b n marks (p + 1)
     unfolding any runs
-    walking_end h = let e = s.here in record { markable = s.markable; high = omega arith; left = λ t q. s.left t q ∙ rw (steps_none text work b i end h) }
+    walked_end h = let e = s.here in record { markable = s.markable; high = omega arith; left = λ t q. s.left t q ∙ rw (steps_none text work b i end h) }
 
     module _ {r : ℕ} {hit : Bool} (q : RunFrom text work b i end r) (o : OnMarked text work b n marks i (r - i) hit) where
       -- the run from step i, and the others
@@ -131,12 +142,12 @@ module _ {text work : List ℕ} {b : Bases} {n : Counts} {marks : ℕ} where
       unfolding any is_repeat
       first_run t m = s.left t m ∙ rw (q.first, ← o.answer t m)
 
-      pub walking_more : hit ≡ false → Walking text work b n marks p end r
-      walking_more h = record { markable = s.markable; here = s.here; high = q.high; inside = s.inside; left = λ t m. first_run t m ∙ rw h }
+      walked_more : hit ≡ false → Walked text work b n marks p end r
+      walked_more h = record { markable = s.markable; here = s.here; high = q.high; inside = s.inside; left = λ t m. first_run t m ∙ rw h }
 
-      pub walking_hit : hit ≡ true → (t : Segment → Bool) → Marked t text work b n marks
+      walked_hit : hit ≡ true → (t : Segment → Bool) → Marked t text work b n marks
           → ◌≡◌ {A = Bool} true (any (has_hit t (segments_of text work b n)) (paths_to text work b n.paths))
-      walking_hit h t m = sym (first_run t m ∙ rw h)
+      walked_hit h t m = sym (first_run t m ∙ rw h)
 
 -- ---- the answer, by segments
 
@@ -147,6 +158,27 @@ any_is {text} {work} {b} {n} h = record { answer = λ t m. h t m ∙ sym (hits t
 pub looked_none : {text work : List ℕ} {b : Bases} {n : Counts} {g : Layout} {p : ℕ} → Looking text work b n g.eligible p → n.paths ≤ p → AnyIs text work b n g false
 looked_none s h = any_is (looking_end s h)
 
-pub looked_hit : {text work : List ℕ} {b : Bases} {n : Counts} {g : Layout} {p end i r : ℕ} {hit : Bool} → Walking text work b n g.eligible p end i → RunFrom text work b i end r
-    → OnMarked text work b n g.eligible i (r - i) hit → hit ≡ true → AnyIs text work b n g true
-looked_hit s q o h = any_is (walking_hit s q o h)
+-- ---- the runs of a path
+
+module _ {text work : List ℕ} {b : Bases} {n : Counts} {p : ℕ} where
+  pub walking_start : {marks : ℕ} {q : PathWords} {of it : Runs} → Looking text work b n marks p → p < n.paths → PathIs text work b n p q → RunsOf text work b q.first q.end of → it ≡ of
+      → Walking text work b n marks p it
+  walking_start {q = q} s h is r e = record { at = q.first; end = q.end; ahead = rw e r; walked = walked_start s h is }
+
+  module _ {marks : ℕ} {it it' : Runs} (s : Walking text work b n marks p it) where
+    pub walking_end : NoRun it it' → Looking text work b n marks (p + 1)
+    walking_end o = walked_end s.walked (given_none s.ahead o)
+
+    pub walking_ready : {r : Range ℕ} → FirstRun it r it' → Markable text work b n marks × (r.start < n.steps)
+    walking_ready f = let u = given_run s.ahead f in (s.walked.markable, omega (arith, given_start s.ahead f, u.low, u.high, s.walked.inside))
+
+    module _ {r : Range ℕ} {times : ℕ} {hit : Bool} (f : FirstRun it r it') (t : times ≡ r.end - r.start) (o : OnMarked text work b n marks r.start times hit) where
+      its_mark : OnMarked text work b n marks s.at (r.end - s.at) hit
+      its_mark = rw (t, given_start s.ahead f) at o
+
+      pub walking_more : hit ≡ false → Walking text work b n marks p it'
+      walking_more h = record { at = r.end; end = s.end; ahead = given_left s.ahead f; walked = walked_more s.walked (given_run s.ahead f) its_mark h }
+
+pub looked_hit : {text work : List ℕ} {b : Bases} {n : Counts} {g : Layout} {p times : ℕ} {it it' : Runs} {r : Range ℕ} {hit : Bool} → Walking text work b n g.eligible p it
+    → FirstRun it r it' → times ≡ r.end - r.start → OnMarked text work b n g.eligible r.start times hit → hit ≡ true → AnyIs text work b n g true
+looked_hit s f t o h = any_is (walked_hit s.walked (given_run s.ahead f) (its_mark s f t o) h)

@@ -5,14 +5,14 @@ ghost use Rattle.tables.specs.ByNumber.{links_to};
 ghost use Rattle.normalize_tables.specs.Layout.{Source};
 ghost use Rattle.targets.specs.Marking.{Markable, Adds, LinkMarked, UnitsKept, MarkedIs};
 
-use crate::marks::{mark_name, still_marked};
+use crate::marks::{is_marked, mark_name};
 use normalize_tables::layout::Layout;
 use runs::counts::is_self_link;
 use scan::names::is_star;
 use tables::entry::{LinkNo, SegmentNo};
 use tables::graph::Graph;
 use tables::tables::{Bases, Counts};
-use work::work::{clear_words, word};
+use work::work::clear_words;
 
 // Marks the segment of link `i`, where that is a self-link.
 pub fn mark_link(text: &[u8], work: &mut [u32], b: Bases, n: Counts, marks: usize, i: usize)
@@ -55,9 +55,8 @@ pub fn keep_units(text: &[u8], work: &mut [u32], b: Bases, n: Counts, marks: usi
     for i in 0..n.segs {
         let graph = Graph { text, work, b, n };
         let s = graph.segment(SegmentNo(i as u32));
-        let mark = word(work, marks + i);
-        let now = still_marked(mark, is_unit(s.sequence.of(text), cap));
-        work[marks + i] = now as u32;
+        let stays = is_marked(work, marks + i) && is_unit(s.sequence.of(text), cap);
+        work[marks + i] = u32::from(stays);
     }
 }
 

@@ -6,13 +6,13 @@ ghost use Rattle.tables.specs.ByNumber.{paths_to};
 ghost use Rattle.normalize_tables.specs.Layout.{Source};
 ghost use Rattle.targets.specs.Marking.{Markable, Adds, OnMarked, AnyIs, NextMarked, PathMarked, BothKept, MarkFoldedIs};
 
-use crate::marks::{mark_name, still_marked};
+use crate::marks::{is_marked, mark_name};
 use normalize_tables::layout::Layout;
-use runs::runs::run_from;
+use runs::runs::{Runs, run_from};
 use tables::entry::PathNo;
 use tables::graph::Graph;
 use tables::tables::{Bases, Counts};
-use work::work::{clear_words, word};
+use work::work::clear_words;
 
 // Is the run of `times` steps from step `i` on one of two or more, on a marked segment?
 #[tactic(auto, using(crate::proofs::Looking::marked_unknown, crate::proofs::Looking::marked_known))]
@@ -24,7 +24,7 @@ pub fn on_marked(graph: &Graph, marks: usize, i: usize, times: usize) -> bool
         return false;
     }
     match graph.named(graph.step(i).name) {
-        Some(found) => word(graph.work, marks + found.0 as usize) == 1,
+        Some(found) => is_marked(graph.work, marks + found.0 as usize),
         None => false,
     }
 }
@@ -36,14 +36,10 @@ pub fn any_folded(graph: &Graph, g: Layout) -> bool
 {
     for p in 0..graph.n.paths {
         let path = graph.path(PathNo(p as u32));
-        let mut i = path.first;
-        // From run to run.
-        while i < path.end {
-            let end = run_from(graph, i, path.end);
-            if on_marked(graph, g.eligible, i, end - i) {
+        for run in Runs::of(graph, path.first, path.end) {
+            if on_marked(graph, g.eligible, run.start, run.len()) {
                 return true;
             }
-            i = end;
         }
     }
     false
@@ -86,7 +82,7 @@ pub fn mark_path(
     ensures { PathMarked text.now work.old work.new b n marks first end }
 {
     let mut i = first;
-    // From run to run.
+    // No `for` over `Runs`: each turn writes the work area, which the runs' graph would hold lent across the loop.
     while i < end {
         i = mark_next(text, work, b, n, marks, i, end);
     }
@@ -111,12 +107,9 @@ pub fn keep_eligible(work: &mut [u32], g: Layout, count: usize) -> usize
 {
     let mut total = 0;
     for i in 0..count {
-        let eligible = word(work, g.eligible + i);
-        let folded = word(work, g.folded + i);
-        let mark = still_marked(eligible, folded == 1);
-        let at = g.folded + i;
-        work[at] = mark as u32;
-        total += mark;
+        let stays = is_marked(work, g.eligible + i) && is_marked(work, g.folded + i);
+        work[g.folded + i] = u32::from(stays);
+        total += usize::from(stays);
     }
     total
 }

@@ -1,6 +1,5 @@
 // Marks: a word for each segment, 1 where it is marked.
-ghost use Rattle.std.specs.Prelude.{◌&&◌, ◌≡◌, ◌≤◌, eqb};
-ghost use Rattle.gfa_spec.specs.Runs.{bit};
+ghost use Rattle.std.specs.Prelude.{◌≡◌, ◌<◌, eqb, length, get_or};
 ghost use Rattle.scan.specs.Places.{Inside};
 ghost use Rattle.targets.specs.Marking.{Markable, NameMarked};
 
@@ -8,12 +7,12 @@ use scan::places::Place;
 use tables::graph::Graph;
 use tables::tables::{Bases, Counts};
 
-// 1 where a mark is set and stays so, else 0.
-#[tactic(auto, unfolding(gfa_spec::specs::Runs::bit))]
-pub fn still_marked(mark: usize, stays: bool) -> usize
-    ensures { (result ≡ bit (eqb mark 1 && stays)) × (result ≤ 1) }
+// Is the mark at the word `at` set?
+pub fn is_marked(work: &[u32], at: usize) -> bool
+    requires { at < length work.now }
+    ensures { result ≡ eqb (get_or work.now at 0) 1 }
 {
-    usize::from(mark == 1 && stays)
+    work[at] == 1
 }
 
 // Marks the segment that has the name, if one has it.

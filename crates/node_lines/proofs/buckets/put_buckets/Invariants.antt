@@ -1,10 +1,6 @@
--- `node_lines::buckets::put_buckets` meets its contract. The loop's invariant is its state at a number. Assumes nothing.
-use Prim.Native.Nat.{◌-◌}
+-- `node_lines::buckets::put_buckets` meets its contract. The loop's invariant is its state at the groups that are left. Assumes nothing.
 use Rattle.node_lines.proofs.Grouping.{Bucketing}
 use Rattle.node_lines.proofs.buckets.put_buckets.Given as goal
 
-abbrev pub invariant-loop-i : goal.invariant-loop-i
-invariant-loop-i l = Bucketing l.initial.w l.work l.table l.nums l.m l.w l.i
-
-abbrev pub decreases-loop-i : goal.decreases-loop-i
-decreases-loop-i l = l.m - l.i
+abbrev pub invariant-loop-g : goal.invariant-loop-g
+invariant-loop-g l = Bucketing l.initial.w l.work l.table l.nums l.m l.w l.g-iterator

@@ -1,11 +1,14 @@
-use Rattle.report.proofs.Repeating.{repeating_start, repeating_more, repeating_end}
+use Rattle.report.proofs.Repeating.{repeating_start, repeating_few, repeating_more, repeating_end}
 use Rattle.report.proofs.totals.add_repeats.Goals as goal
 
-pub loop-i-init : goal.loop-i-init
-loop-i-init c = search repeating_start
+pub loop-run-init : goal.loop-run-init
+loop-run-init c = repeating_start c.requires.0 c.of-run-items.ensures c.into_iter-run-iterator.ensures.into_iter_gives
 
-pub loop-i-preserved : goal.loop-i-preserved
-loop-i-preserved c = search repeating_more
+pub with_run-now-requires : goal.with_run-now-requires
+with_run-now-requires c = repeating_few c.loop-run.invariant c.requires.2
+
+pub loop-run-preserved : goal.loop-run-preserved
+loop-run-preserved c = repeating_more c.loop-run.invariant c.in-Some.ensures.steps c.len.ensures.value c.with_run-now.ensures
 
 pub returns : goal.returns
-returns c = search repeating_end
+returns c = repeating_end c.loop-run.invariant c.in-None.ensures.steps

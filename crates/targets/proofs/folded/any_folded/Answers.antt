@@ -1,17 +1,20 @@
-use Rattle.targets.proofs.Looking.{walking_start, walking_end, walking_more, looked_none, looked_hit}
+use Rattle.targets.proofs.Looking.{walking_start, walking_end, walking_ready, walking_more, looked_none, looked_hit}
 use Rattle.targets.proofs.folded.any_folded.Goals as goal
 
-pub loop-i-init : goal.loop-i-init
-loop-i-init c = search walking_start
+pub loop-run-init : goal.loop-run-init
+loop-run-init c = walking_start c.loop-p.invariant c.loop-p-test.true c.path-path.ensures c.of-run-items.ensures c.into_iter-run-iterator.ensures.into_iter_gives
+
+pub on_marked-requires : goal.on_marked-requires
+on_marked-requires c = walking_ready c.loop-run.invariant c.in-Some.ensures.steps
 
 pub returns-then-on_marked : goal.returns-then-on_marked
-returns-then-on_marked c = search looked_hit
+returns-then-on_marked c = looked_hit c.loop-run.invariant c.in-Some.ensures.steps c.len.ensures.value c.on_marked.ensures c.if-on_marked.true
 
-pub loop-i-preserved : goal.loop-i-preserved
-loop-i-preserved c = search walking_more
+pub loop-run-preserved : goal.loop-run-preserved
+loop-run-preserved c = walking_more c.loop-run.invariant c.in-Some.ensures.steps c.len.ensures.value c.on_marked.ensures c.if-on_marked.false
 
 pub loop-p-preserved : goal.loop-p-preserved
-loop-p-preserved c = search walking_end
+loop-p-preserved c = walking_end c.loop-run.invariant c.in-None.ensures.steps
 
 pub returns : goal.returns
 returns c = search looked_none
