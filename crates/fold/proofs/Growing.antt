@@ -18,7 +18,7 @@ use Rattle.tables.proofs.ByNumber.{path_stands, step_stands}
 use Rattle.normalize_tables.specs.declared.layout.Layout.{Layout}
 use Rattle.normalize_tables.specs.declared.layout.Made.{Made}
 use Rattle.normalize_tables.specs.Layout.{Source}
-use Rattle.normalize_tables.specs.News.{names_at, Agree}
+use Rattle.normalize_tables.specs.News.{first_of, names_at, Agree}
 use Rattle.normalize_tables.specs.NewByNumber.{new_steps_from, KeptTo, SegmentsKept, StepsKept}
 use Rattle.normalize_tables.proofs.NewByNumber.{new_steps_split}
 use Rattle.normalize_tables.proofs.NewsKept.{news_kept, names_kept, new_steps_kept, step_rows_kept}
@@ -98,10 +98,10 @@ module _ {text w v u : List ℕ} {b : Bases} {n : Counts} {g : Layout} {hi : ℕ
 
 -- the new steps from step t on, and those that came behind them
 pub steps_more : {text v u : List ℕ} {b : Bases} {n : Counts} {g : Layout} {hi : ℕ} {k r : Made} {d : ℕ} (t : ℕ) → Stage text v b n g k → Grown text v u b n g hi k r d → t ≤ k.steps
-    → new_steps_from (names_at text u b n g r.first r.segs) u g t r.steps
-    ≡ new_steps_from (names_at text v b n g k.first k.segs) v g t k.steps ++ new_steps_from (names_at text u b n g r.first r.segs) u g k.steps r.steps
+    → new_steps_from (names_at text u b n g (first_of r.first) r.segs) u g t r.steps
+    ≡ new_steps_from (names_at text v b n g (first_of k.first) k.segs) v g t k.steps ++ new_steps_from (names_at text u b n g (first_of r.first) r.segs) u g k.steps r.steps
 steps_more {text} {v} {u} {b} {n} {g} {hi} {k} {r} t s q h =
-    new_steps_split (names_at text u b n g r.first r.segs) u g t k.steps r.steps h q.low.1
+    new_steps_split (names_at text u b n g (first_of r.first) r.segs) u g t k.steps r.steps h q.low.1
     ∙ rw (new_steps_kept q.names g q.frame.steps s.steps t k.steps h (omega arith))
 
 -- ---- nothing of it changed
@@ -111,15 +111,15 @@ module _ {text v u : List ℕ} {b : Bases} {n : Counts} {g : Layout} {m : Made} 
   same_low : KeptTo g.last v u
   same_low = kept_less g.last k (omega (arith, s.making.source.placed.paths))
 
-  pub same_names : names_at text u b n g m.first m.segs ≡ names_at text v b n g m.first m.segs
-  same_names = names_kept s.making.source (of_text s.making.source same_low) m.first s.making.rows c
+  pub same_names : names_at text u b n g (first_of m.first) m.segs ≡ names_at text v b n g (first_of m.first) m.segs
+  same_names = names_kept s.making.source (of_text s.making.source same_low) (first_of m.first) s.making.rows c
 
-  pub same_made : (ss : List Segment) → made_at ss text u b g m.first m.segs ≡ made_at ss text v b g m.first m.segs
+  pub same_made : (ss : List Segment) → made_at ss text u b g (first_of m.first) m.segs ≡ made_at ss text v b g (first_of m.first) m.segs
   unfolding made_at
-  same_made ss = rw (news_kept s.making.source (of_text s.making.source same_low) m.first s.making.rows c)
+  same_made ss = rw (news_kept s.making.source (of_text s.making.source same_low) (first_of m.first) s.making.rows c)
 
   pub same_new_steps : (t : ℕ) → t ≤ m.steps
-      → new_steps_from (names_at text u b n g m.first m.segs) u g t m.steps ≡ new_steps_from (names_at text v b n g m.first m.segs) v g t m.steps
+      → new_steps_from (names_at text u b n g (first_of m.first) m.segs) u g t m.steps ≡ new_steps_from (names_at text v b n g (first_of m.first) m.segs) v g t m.steps
   same_new_steps t h = new_steps_kept (names_same {nodes = n.segs + m.segs} same_names) g d s.steps t m.steps h (omega arith)
 
   pub same_stage : (runs changed : ℕ) → length u ≡ length v → Stage text u b n g (record { first = m.first; segs = m.segs; steps = m.steps; runs = runs; changed = changed })

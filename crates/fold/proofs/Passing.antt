@@ -25,7 +25,7 @@ use Rattle.runs.proofs.Totals.{summed_next, Summed}
 use Rattle.normalize_tables.specs.declared.layout.Layout.{Layout}
 use Rattle.normalize_tables.specs.declared.layout.Made.{Made}
 use Rattle.normalize_tables.specs.Layout.{Placed, Source}
-use Rattle.normalize_tables.specs.News.{names_at}
+use Rattle.normalize_tables.specs.News.{first_of, names_at}
 use Rattle.normalize_tables.specs.NewByNumber.{new_steps_from, new_paths_to, PathRowsTo, NewPathPut, KeptTo, SegmentsKept, StepsKept}
 use Rattle.normalize_tables.proofs.NewByNumber.{paths_put_low, paths_put_segments, paths_put_steps, paths_put_paths, paths_put_behind, new_paths_more, new_path_is, new_steps_length}
 use Rattle.normalize_tables.proofs.NewsKept.{new_paths_kept, path_rows_kept}
@@ -150,7 +150,7 @@ sum_snoc (y ∷ xs) x = rw (sum_snoc xs x) (omega arith)
 -- the new paths that the paths before p became, before what those from p on become
 abbrev pub gone_on_paths : List Segment → List Segment → List ℕ → List ℕ → List ℕ → Bases → Counts → Layout → Made → ℕ → AllTransformed
 gone_on_paths ss fs text first work b n g m p =
-    before_paths (new_paths_to (names_at text work b n g m.first m.segs) work g p) (transform_paths ss fs (paths_from text first b n p) (made_at ss text work b g m.first m.segs))
+    before_paths (new_paths_to (names_at text work b n g (first_of m.first) m.segs) work g p) (transform_paths ss fs (paths_from text first b n p) (made_at ss text work b g (first_of m.first) m.segs))
 
 -- The state at path p: the paths before it are transformed.
 pub record Passing (text first work : List ℕ) (b : Bases) (n : Counts) (g : Layout) (m : Made) (p : ℕ) : Type 0 where
@@ -166,7 +166,7 @@ pub record Passing (text first work : List ℕ) (b : Bases) (n : Counts) (g : La
   pub few_runs : m.runs ≤ done
   pub few_changed : m.changed ≤ p
   pub rows : PathRowsTo m.steps work g p
-  pub steps : m.steps ≡ sum (map length (new_paths_to (names_at text work b n g m.first m.segs) work g p))
+  pub steps : m.steps ≡ sum (map length (new_paths_to (names_at text work b n g (first_of m.first) m.segs) work g p))
   pub left : (ss fs : List Segment) → Folds ss fs text first b n g
       → transform_paths ss fs (paths_to text first b n.paths) (none_made ss)
       ≡ gone_on_paths ss fs text first work b n g m p
@@ -194,10 +194,10 @@ module _ {text first : List ℕ} {b : Bases} {n : Counts} {g : Layout} {work : L
 
   module _ (h : p < n.paths) {work' : List ℕ} {r : Made} (q : NextIs text work work' b n g m p r) where
     -- the new paths with one more
-    new_paths_stand : new_paths_to (names_at text work' b n g r.first r.segs) work' g (p + 1)
-        ≡ new_paths_to (names_at text work b n g m.first m.segs) work g p ++ (new_steps_from (names_at text work' b n g r.first r.segs) work' g m.steps r.steps ∷ [])
+    new_paths_stand : new_paths_to (names_at text work' b n g (first_of r.first) r.segs) work' g (p + 1)
+        ≡ new_paths_to (names_at text work b n g (first_of m.first) m.segs) work g p ++ (new_steps_from (names_at text work' b n g (first_of r.first) r.segs) work' g m.steps r.steps ∷ [])
     new_paths_stand =
-        let names' = names_at text work' b n g r.first r.segs in
+        let names' = names_at text work' b n g (first_of r.first) r.segs in
         new_paths_more names' work' g p
         ∙ rw (new_paths_kept q.grown.names g q.grown.frame.steps s.stage.steps p q.grown.frame.paths s.rows, new_path_is names' work' g p, q.last_step, q.first_step)
 
@@ -207,9 +207,9 @@ module _ {text first : List ℕ} {b : Bases} {n : Counts} {g : Layout} {work : L
         (each_more (path_rows_kept g r.steps s.rows q.grown.frame.paths q.grown.low.1)
         (record { steps = rw q.last_step (omega arith) }))
 
-    new_total : r.steps ≡ sum (map length (new_paths_to (names_at text work' b n g r.first r.segs) work' g (p + 1)))
+    new_total : r.steps ≡ sum (map length (new_paths_to (names_at text work' b n g (first_of r.first) r.segs) work' g (p + 1)))
     new_total =
-        let size = new_steps_length (names_at text work' b n g r.first r.segs) work' g m.steps r.steps in
+        let size = new_steps_length (names_at text work' b n g (first_of r.first) r.segs) work' g m.steps r.steps in
         rw (new_paths_stand, map-append, sum_snoc, size) (omega (arith, s.steps, q.grown.low))
 
     new_left : (ss fs : List Segment) → Folds ss fs text first b n g

@@ -17,7 +17,7 @@ use Rattle.normalize_tables.specs.declared.layout.Layout.{Layout}
 use Rattle.normalize_tables.specs.declared.layout.Made.{Made}
 use Rattle.normalize_tables.specs.declared.rows.NewStepWords.{NewStepWords}
 use Rattle.normalize_tables.specs.Layout.{Placed}
-use Rattle.normalize_tables.specs.News.{step_words, names_at, new_step_at}
+use Rattle.normalize_tables.specs.News.{first_of, step_words, names_at, new_step_at}
 use Rattle.normalize_tables.specs.NewByNumber.{new_step_no, new_steps_from, StepRoom, StepRowsTo, KeptTo, SegmentsKept}
 use Rattle.normalize_tables.proofs.NewByNumber.{steps_put_low, steps_put_paths, steps_put_segments, steps_put_steps, steps_put_behind, new_steps_next, new_steps_none}
 use Rattle.normalize_tables.proofs.NewsKept.{news_kept, names_kept, step_rows_kept}
@@ -55,15 +55,15 @@ module _ {text w w' : List ℕ} {b : Bases} {n : Counts} {g : Layout} {m : Made}
   put_segs : SegmentsKept g m.segs w w'
   put_segs = steps_put_segments placed m.steps (m.steps + c) u.only m.segs s.making.half
 
-  put_making : Making text w' b n g m.first m.segs
+  put_making : Making text w' b n g (first_of m.first) m.segs
   put_making = making_kept s.making (steps_put_low placed m.steps (m.steps + c) u.only) put_segs u.long
 
-  pub put_names : names_at text w' b n g m.first m.segs ≡ names_at text w b n g m.first m.segs
-  put_names = names_kept s.making.source (of_text s.making.source put_low) m.first s.making.rows put_segs
+  pub put_names : names_at text w' b n g (first_of m.first) m.segs ≡ names_at text w b n g (first_of m.first) m.segs
+  put_names = names_kept s.making.source (of_text s.making.source put_low) (first_of m.first) s.making.rows put_segs
 
-  pub put_made : (ss : List Segment) → made_at ss text w' b g m.first m.segs ≡ made_at ss text w b g m.first m.segs
+  pub put_made : (ss : List Segment) → made_at ss text w' b g (first_of m.first) m.segs ≡ made_at ss text w b g (first_of m.first) m.segs
   unfolding made_at
-  put_made ss = rw (news_kept s.making.source (of_text s.making.source put_low) m.first s.making.rows put_segs)
+  put_made ss = rw (news_kept s.making.source (of_text s.making.source put_low) (first_of m.first) s.making.rows put_segs)
 
   pub put_frame : Frame g n.paths m.steps w w'
   put_frame =
@@ -75,10 +75,10 @@ module _ {text w w' : List ℕ} {b : Bases} {n : Counts} {g : Layout} {m : Made}
         high = steps_put_behind placed m.steps (m.steps + c) u.only room;
       }
 
-  pub put_steps_are : new_steps_from (names_at text w' b n g m.first m.segs) w' g m.steps (m.steps + c)
-      ≡ copies c (record { name = nth r.node (names_at text w b n g m.first m.segs) []; orientation = sign_of r.mark })
+  pub put_steps_are : new_steps_from (names_at text w' b n g (first_of m.first) m.segs) w' g m.steps (m.steps + c)
+      ≡ copies c (record { name = nth r.node (names_at text w b n g (first_of m.first) m.segs) []; orientation = sign_of r.mark })
   put_steps_are =
-      steps_constant (names_at text w' b n g m.first m.segs) w' g m.steps c (record { name = nth r.node (names_at text w b n g m.first m.segs) []; orientation = sign_of r.mark })
+      steps_constant (names_at text w' b n g (first_of m.first) m.segs) w' g m.steps c (record { name = nth r.node (names_at text w b n g (first_of m.first) m.segs) []; orientation = sign_of r.mark })
       (λ i l h. unfold new_step_at in rw (u.nodes i l h, u.marks i l h, put_names))
 
   pub put_stage : (runs changed : ℕ) → r.node < n.segs + m.segs

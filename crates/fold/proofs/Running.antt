@@ -16,7 +16,7 @@ use Rattle.runs.specs.Runs.{RunFrom}
 use Rattle.tables.proofs.ByNumber.{TablesKept, steps_none, steps_stand}
 use Rattle.normalize_tables.specs.declared.layout.Layout.{Layout}
 use Rattle.normalize_tables.specs.declared.layout.Made.{Made}
-use Rattle.normalize_tables.specs.News.{names_at}
+use Rattle.normalize_tables.specs.News.{first_of, names_at}
 use Rattle.normalize_tables.specs.NewByNumber.{new_steps_from}
 use Rattle.normalize_tables.proofs.NewByNumber.{new_steps_none}
 use Rattle.new_segs.specs.Makes.{made_at}
@@ -50,8 +50,8 @@ grown_none p s =
 -- the steps that the runs before step i became, before what those from i on become
 abbrev pub gone_on : List Segment → List Segment → List ℕ → List ℕ → List ℕ → Bases → Counts → Layout → Made → Made → ℕ → ℕ → Transformed
 gone_on ss fs text old work b n g m made i end =
-    before (new_steps_from (names_at text work b n g made.first made.segs) work g m.steps made.steps)
-    (transform_runs ss fs (runs_of (steps_from text old b i end)) (made_at ss text work b g made.first made.segs))
+    before (new_steps_from (names_at text work b n g (first_of made.first) made.segs) work g m.steps made.steps)
+    (transform_runs ss fs (runs_of (steps_from text old b i end)) (made_at ss text work b g (first_of made.first) made.segs))
 
 -- The state at step i: the runs before it are turned; `old` are the words before the first.
 pub record Running (text old work : List ℕ) (b : Bases) (n : Counts) (g : Layout) (m made : Made) (first end i : ℕ) : Type 0 where
@@ -64,7 +64,7 @@ pub record Running (text old work : List ℕ) (b : Bases) (n : Counts) (g : Layo
   pub grown : Grown text old work b n g n.paths m made (i - first)
   pub changed : made.changed ≡ m.changed
   pub left : (ss fs : List Segment) → Folds ss fs text old b n g
-      → transform_runs ss fs (runs_of (steps_from text old b first end)) (made_at ss text old b g m.first m.segs)
+      → transform_runs ss fs (runs_of (steps_from text old b first end)) (made_at ss text old b g (first_of m.first) m.segs)
       ≡ gone_on ss fs text old work b n g m made i end
   pub runs : (ss fs : List Segment) → Folds ss fs text old b n g
       → m.runs + count_of (is_folded_run fs) (runs_of (steps_from text old b first end)) ≡ made.runs + count_of (is_folded_run fs) (runs_of (steps_from text old b i end))
@@ -83,8 +83,8 @@ module _ {text old : List ℕ} {b : Bases} {n : Counts} {g : Layout} {m : Made} 
         grown = rw none_yet (grown_none n.paths s.0);
         changed = refl;
         left = λ ss fs f.
-            rw (new_steps_none (names_at text old b n g m.first m.segs) old g m.steps m.steps (omega arith))
-            (runs_start ss fs (runs_of (steps_from text old b first end)) (made_at ss text old b g m.first m.segs));
+            rw (new_steps_none (names_at text old b n g (first_of m.first) m.segs) old g m.steps m.steps (omega arith))
+            (runs_start ss fs (runs_of (steps_from text old b first end)) (made_at ss text old b g (first_of m.first) m.segs));
         runs = λ ss fs f. refl;
       }
 

@@ -4,7 +4,7 @@ use native.Mathlib.Omega.{arith}
 use mathlib.Core.Bool.{Bool, ◌&&◌}
 use mathlib.Core.List.{List, [], ◌∷◌, map}
 use mathlib.Core.Logic.{inl, inr, ⊎_elim}
-use Rattle.std.specs.Prelude.{Some}
+use Rattle.std.specs.Prelude.{Option, Some}
 use Rattle.gfa_spec.specs.Options.{map_or}
 use mathlib.Core.Path.{◌≡◌, refl, sym, ap, ◌∙◌}
 use lib.Dec.{eqb}
@@ -33,7 +33,7 @@ use Rattle.normalize_tables.specs.declared.layout.Layout.{Layout}
 use Rattle.normalize_tables.specs.declared.layout.Made.{Made}
 use Rattle.normalize_tables.specs.Layout.{Source}
 use Rattle.normalize_tables.specs.Marks.{Marked}
-use Rattle.normalize_tables.specs.News.{first_number, news_at, names_at, new_paths_at}
+use Rattle.normalize_tables.specs.News.{first_of, first_number, news_at, names_at, new_paths_at}
 use Rattle.normalize_tables.specs.NewByNumber.{new_paths_to, KeptTo}
 use Rattle.normalize_tables.specs.Rewritten.{NewRows, Folded}
 use Rattle.new_segs.specs.Makes.{next_at, made_at, Making}
@@ -71,12 +71,12 @@ module _ {text before first : List ℕ} {b : Bases} {n : Counts} {g : Layout} (s
   cleared_readable = cleared_source.readable
 
   -- nothing is made
-  none_making : {f : ℕ} → f ≡ first_number (segments_of text first b n) → Making text first b n g f 0
-  unfolding number_in
+  none_making : {f : Option ℕ} → f ≡ (none_made (segments_of text first b n)).next → Making text first b n g (first_of f) 0
+  unfolding number_in first_number
   none_making e =
       record {
         source = cleared_source;
-        first_is = e;
+        first_is = ap first_of e;
         half = omega arith;
         rows = each_none;
         suffixed = record { taken = λ j i h. absurd (omega arith); rising = λ i j h l. absurd (omega arith) };
@@ -85,7 +85,7 @@ module _ {text before first : List ℕ} {b : Bases} {n : Counts} {g : Layout} (s
         chained = record { back = λ j h. absurd (omega arith) };
       }
 
-  pub passing_start : {f : ℕ} → AllKnown text before b n → f ≡ first_number (segments_of text first b n)
+  pub passing_start : {f : Option ℕ} → AllKnown text before b n → f ≡ (none_made (segments_of text first b n)).next
       → Passing text first first b n g (record { first = f; segs = 0; steps = 0; runs = 0; changed = 0 }) 0
   passing_start {f} k e =
       record {
@@ -108,7 +108,7 @@ module _ {text before first : List ℕ} {b : Bases} {n : Counts} {g : Layout} (s
       }
     where
       start : (ss fs : List Segment) → transform_paths ss fs (paths_to text first b n.paths) (none_made ss)
-          ≡ before_paths (new_paths_to (names_at text first b n g f 0) first g 0) (transform_paths ss fs (paths_from text first b n 0) (made_at ss text first b g f 0))
+          ≡ before_paths (new_paths_to (names_at text first b n g (first_of f) 0) first g 0) (transform_paths ss fs (paths_from text first b n 0) (made_at ss text first b g (first_of f) 0))
       start ss fs =
           paths_start ss fs (paths_to text first b n.paths) (none_made ss)
           ∙ rw (paths_all text first b n) (unfold new_paths_at news_at rows_at made_at next_at none_made in refl)
@@ -137,7 +137,7 @@ module _ {text first work : List ℕ} {b : Bases} {n : Counts} {g : Layout} {m :
       }
 
   transformed : (ss fs : List Segment) → Folds ss fs text first b n g → transform_paths ss fs (paths_to text first b n.paths) (none_made ss)
-      ≡ record { made = made_at ss text work b g m.first m.segs; paths = new_paths_to (names_at text work b n g m.first m.segs) work g n.paths }
+      ≡ record { made = made_at ss text work b g (first_of m.first) m.segs; paths = new_paths_to (names_at text work b n g (first_of m.first) m.segs) work g n.paths }
   transformed ss fs f =
       s.left ss fs f ∙ rw (paths_none text first b n p h, paths_end, last)
 

@@ -23,7 +23,7 @@ use Rattle.tables.specs.ByNumber.{segment_no, step_no, segments_of, StepIs, Name
 use Rattle.tables.proofs.Named.{named_number, named_below, unnamed_number}
 use Rattle.normalize_tables.specs.declared.layout.Layout.{Layout}
 use Rattle.normalize_tables.specs.declared.layout.Made.{Made}
-use Rattle.normalize_tables.specs.News.{new_at, names_at}
+use Rattle.normalize_tables.specs.News.{first_of, new_at, names_at}
 use Rattle.normalize_tables.proofs.NewsKept.{step_rows_kept}
 use Rattle.normalize_tables.specs.NewByNumber.{StepRoom}
 use Rattle.fold.specs.declared.turns.Target.{Target}
@@ -70,13 +70,13 @@ module _ {text w : List ℕ} {b : Bases} {n : Counts} {g : Layout} {m : Made} {u
     target_fits = omega (arith, (f.on j z).0, (step_small {node = n.segs + m.segs} (omega arith)).0)
 
     made_folded : (run : Run) → run.step.name.bytes ≡ (segment_no text w b unit).id → run.count ≡ count
-        → fold_run (segments_of text w b n) run (made_at (segments_of text w b n) text w b g m.first m.segs)
-        ≡ onto run (nth (n.segs + j) (names_at text w b n g m.first m.segs) []) (made_at (segments_of text w b n) text w b g m.first m.segs)
+        → fold_run (segments_of text w b n) run (made_at (segments_of text w b n) text w b g (first_of m.first) m.segs)
+        ≡ onto run (nth (n.segs + j) (names_at text w b n g (first_of m.first) m.segs) []) (made_at (segments_of text w b n) text w b g (first_of m.first) m.segs)
     unfolding fold_run
     made_folded run e c =
-        let found : made_for run.step.name.bytes run.count (made_at (segments_of text w b n) text w b g m.first m.segs).new ≡ Some (new_at text b g m.first w j).id =
+        let found : made_for run.step.name.bytes run.count (made_at (segments_of text w b n) text w b g (first_of m.first) m.segs).new ≡ Some (new_at text b g (first_of m.first) w j).id =
         unfold made_at in rw (e, c) (made_found s.making unit count h f z) in
-        rw (found, fold_run, name_of_new text w b n g m.first m.segs j (f.on j z).0)
+        rw (found, fold_run, name_of_new text w b n g (first_of m.first) m.segs j (f.on j z).0)
 
     -- its segment was made
     pub target_made : TargetIs text w w b n g m unit count (record { node = n.segs + j; segs = m.segs })
@@ -93,18 +93,18 @@ module _ {text w : List ℕ} {b : Bases} {n : Counts} {g : Layout} {m : Made} {u
         }
 
   module _ (z : r ≡ None) where
-    new_folded : {v : List ℕ} → SegmentMade text w v b n g m.first m.segs unit count → (run : Run) → run.step.name.bytes ≡ (segment_no text w b unit).id → run.count ≡ count
-        → fold_run (segments_of text w b n) run (made_at (segments_of text w b n) text w b g m.first m.segs)
-        ≡ onto run (nth (n.segs + m.segs) (names_at text v b n g m.first (m.segs + 1)) []) (made_at (segments_of text w b n) text v b g m.first (m.segs + 1))
+    new_folded : {v : List ℕ} → SegmentMade text w v b n g (first_of m.first) m.segs unit count → (run : Run) → run.step.name.bytes ≡ (segment_no text w b unit).id → run.count ≡ count
+        → fold_run (segments_of text w b n) run (made_at (segments_of text w b n) text w b g (first_of m.first) m.segs)
+        ≡ onto run (nth (n.segs + m.segs) (names_at text v b n g (first_of m.first) (m.segs + 1)) []) (made_at (segments_of text w b n) text v b g (first_of m.first) (m.segs + 1))
     unfolding fold_run
     new_folded {v} a run e c =
         let ss = segments_of text w b n in
-        let none_found : made_for run.step.name.bytes run.count (made_at ss text w b g m.first m.segs).new ≡ None =
+        let none_found : made_for run.step.name.bytes run.count (made_at ss text w b g (first_of m.first) m.segs).new ≡ None =
         unfold made_at in rw (e, c) (made_none s.making unit count h f z) in
-        rw (none_found, fold_run, name_of_new text v b n g m.first (m.segs + 1) m.segs (omega arith), a.new run e c, a.made run e c)
+        rw (none_found, fold_run, name_of_new text v b n g (first_of m.first) (m.segs + 1) m.segs (omega arith), a.new run e c, a.made run e c)
 
     -- there is none: a new one is made
-    pub target_new : {v : List ℕ} → SegmentMade text w v b n g m.first m.segs unit count → TargetIs text w v b n g m unit count (record { node = n.segs + m.segs; segs = m.segs + 1 })
+    pub target_new : {v : List ℕ} → SegmentMade text w v b n g (first_of m.first) m.segs unit count → TargetIs text w v b n g m unit count (record { node = n.segs + m.segs; segs = m.segs + 1 })
     target_new {v} a =
         record {
           stage = record { making = a.making; steps = step_rows_kept g (n.segs + (m.segs + 1)) s.steps frame.steps (omega arith) };
@@ -148,7 +148,7 @@ module _ {text w v w' : List ℕ} {b : Bases} {n : Counts} {g : Layout} {m : Mad
       }
     where
       folded : (run : Run) → OnUnit text w b unit count (sign_of mark) run
-          → fold_run (segments_of text w b n) run (made_at (segments_of text w b n) text w b g m.first m.segs)
+          → fold_run (segments_of text w b n) run (made_at (segments_of text w b n) text w b g (first_of m.first) m.segs)
           ≡ stands_at (segments_of text w b n) text w' b n g (record { first = m.first; segs = t.segs; steps = m.steps + 1; runs = m.runs + 1; changed = m.changed }) m.steps
       folded run q =
           a.folded run q.name q.times
@@ -162,11 +162,11 @@ module _ {text w w' : List ℕ} {b : Bases} {n : Counts} {g : Layout} {m : Made}
     keep_fits = omega (arith, room.few)
 
     keep_steps : (run : Run) → OnUnit text w b unit count (sign_of mark) run
-        → keep_run run (made_at (segments_of text w b n) text w b g m.first m.segs)
+        → keep_run run (made_at (segments_of text w b n) text w b g (first_of m.first) m.segs)
         ≡ stands_at (segments_of text w b n) text w' b n g (record { first = m.first; segs = m.segs; steps = m.steps + count; runs = m.runs; changed = m.changed }) m.steps
     unfolding keep_run as_new stands_at
     keep_steps run q =
-        rw (put_made s keep_fits u (segments_of text w b n), put_steps_are s keep_fits u, name_of_unit text w b n g m.first m.segs unit h, q.name, q.times, q.orientation)
+        rw (put_made s keep_fits u (segments_of text w b n), put_steps_are s keep_fits u, name_of_unit text w b n g (first_of m.first) m.segs unit h, q.name, q.times, q.orientation)
 
     pub keep_is : KeepIs text w w' b n g m unit count (sign_of mark) (record { first = m.first; segs = m.segs; steps = m.steps + count; runs = m.runs; changed = m.changed })
     keep_is =
@@ -210,14 +210,14 @@ module _ {text w : List ℕ} {b : Bases} {n : Counts} {i unit : ℕ} {x : StepWo
   pub turn_folded : {w' : List ℕ} {m r : Made} → t ≡ true → FoldIs text w w' b n g m unit count (sign_of x.mark) r → TurnIs text w w' b n g m i count r
   turn_folded {w'} {m} {r} y q = record { grown = q.grown; changed = q.changed; turned = turned; runs = λ ss fs F. q.runs ∙ rw (by_marks ss fs F, y) (unfold bit in refl) }
     where
-      turned : (ss fs : List Segment) → Folds ss fs text w b n g → turn ss fs (run_at text w b i count) (made_at ss text w b g m.first m.segs) ≡ stands_at ss text w' b n g r m.steps
+      turned : (ss fs : List Segment) → Folds ss fs text w b n g → turn ss fs (run_at text w b i count) (made_at ss text w b g (first_of m.first) m.segs) ≡ stands_at ss text w' b n g r m.steps
       turned ss fs F = unfold turn in rw (by_marks ss fs F, y) (rw F.segs at (q.folded (run_at text w b i count) on_unit))
 
   -- that is kept
   pub turn_kept : {w' : List ℕ} {m r : Made} → t ≡ false → KeepIs text w w' b n g m unit count (sign_of x.mark) r → TurnIs text w w' b n g m i count r
   turn_kept {w'} {m} {r} y q = record { grown = q.grown; changed = q.changed; turned = turned; runs = λ ss fs F. q.runs ∙ rw (by_marks ss fs F, y) (unfold bit in omega arith) }
     where
-      turned : (ss fs : List Segment) → Folds ss fs text w b n g → turn ss fs (run_at text w b i count) (made_at ss text w b g m.first m.segs) ≡ stands_at ss text w' b n g r m.steps
+      turned : (ss fs : List Segment) → Folds ss fs text w b n g → turn ss fs (run_at text w b i count) (made_at ss text w b g (first_of m.first) m.segs) ≡ stands_at ss text w' b n g r m.steps
       turned ss fs F = unfold turn in rw (by_marks ss fs F, y) (rw F.segs at (q.kept (run_at text w b i count) on_unit))
 
 pub ruleset turning = (step_known, turn_folded, turn_kept)

@@ -16,7 +16,7 @@ use Rattle.tables.specs.ByNumber.{segment_no, path_no, step_no, segments_of, ste
 use Rattle.normalize_tables.specs.declared.layout.Layout.{Layout}
 use Rattle.normalize_tables.specs.declared.layout.Made.{Made}
 use Rattle.normalize_tables.specs.declared.rows.NewStepWords.{NewStepWords}
-use Rattle.normalize_tables.specs.News.{step_words, path_words, names_at, Agree}
+use Rattle.normalize_tables.specs.News.{first_of, step_words, path_words, names_at, Agree}
 use Rattle.normalize_tables.specs.NewByNumber.{new_steps_from, StepRoom, StepRows, step_span}
 use Rattle.fold.specs.declared.turns.Target.{Target}
 use Rattle.new_segs.specs.Makes.{made_at, Making, Frame}
@@ -57,7 +57,7 @@ pub record Folds (ss fs : List Segment) (text work : List ℕ) (b : Bases) (n : 
 
 -- What holds of the new segments and of the rows of the new steps.
 pub record Stage (text work : List ℕ) (b : Bases) (n : Counts) (g : Layout) (m : Made) : Type 0 where
-  pub making : Making text work b n g m.first m.segs
+  pub making : Making text work b n g (first_of m.first) m.segs
   pub steps : StepRows work n g m
 
 -- There is room for what `count` steps become.
@@ -75,15 +75,15 @@ pub record Grown (text before work : List ℕ) (b : Bases) (n : Counts) (g : Lay
   pub few : r.steps + r.segs ≤ m.steps + m.segs + count
   pub half : 2 * r.segs ≤ 2 * m.segs + count
   pub runs : r.runs ≤ m.runs + count
-  pub names : Agree (n.segs + m.segs) (names_at text before b n g m.first m.segs) (names_at text work b n g r.first r.segs)
+  pub names : Agree (n.segs + m.segs) (names_at text before b n g (first_of m.first) m.segs) (names_at text work b n g (first_of r.first) r.segs)
   pub frame : Frame g p m.steps before work
 
 -- what stands in the tables: what was made, and the new steps from step t on
 unfoldable pub stands_at : List Segment → List ℕ → List ℕ → Bases → Counts → Layout → Made → ℕ → Transformed
 stands_at ss text work b n g m t =
     record {
-      made = made_at ss text work b g m.first m.segs;
-      steps = new_steps_from (names_at text work b n g m.first m.segs) work g t m.steps;
+      made = made_at ss text work b g (first_of m.first) m.segs;
+      steps = new_steps_from (names_at text work b n g (first_of m.first) m.segs) work g t m.steps;
     }
 
 -- ---- a run
@@ -108,11 +108,11 @@ pub record TargetIs (text before work : List ℕ) (b : Bases) (n : Counts) (g : 
   pub stage : Stage text work b n g (with_segs m r.segs)
   pub node : r.node < n.segs + r.segs
   pub segs : (m.segs ≤ r.segs) × (r.segs ≤ m.segs + 1)
-  pub names : Agree (n.segs + m.segs) (names_at text before b n g m.first m.segs) (names_at text work b n g m.first r.segs)
+  pub names : Agree (n.segs + m.segs) (names_at text before b n g (first_of m.first) m.segs) (names_at text work b n g (first_of m.first) r.segs)
   pub frame : Frame g n.paths m.steps before work
   pub folded : (run : Run) → run.step.name.bytes ≡ (segment_no text before b unit).id → run.count ≡ count
-      → fold_run (segments_of text before b n) run (made_at (segments_of text before b n) text before b g m.first m.segs)
-      ≡ onto run (nth r.node (names_at text work b n g m.first r.segs) []) (made_at (segments_of text before b n) text work b g m.first r.segs)
+      → fold_run (segments_of text before b n) run (made_at (segments_of text before b n) text before b g (first_of m.first) m.segs)
+      ≡ onto run (nth r.node (names_at text work b n g (first_of m.first) r.segs) []) (made_at (segments_of text before b n) text work b g (first_of m.first) r.segs)
   pub room : StepRoom work g (m.steps + 1)
   pub small : (r.node < 4294967296) × (m.steps < 4294967296) × (m.runs < 4294967296)
 
@@ -122,7 +122,7 @@ pub record FoldIs (text before work : List ℕ) (b : Bases) (n : Counts) (g : La
   pub changed : r.changed ≡ m.changed
   pub runs : r.runs ≡ m.runs + 1
   pub folded : (run : Run) → OnUnit text before b unit count mark run
-      → fold_run (segments_of text before b n) run (made_at (segments_of text before b n) text before b g m.first m.segs)
+      → fold_run (segments_of text before b n) run (made_at (segments_of text before b n) text before b g (first_of m.first) m.segs)
       ≡ stands_at (segments_of text before b n) text work b n g r m.steps
 
 -- The run keeps its steps.
@@ -131,7 +131,7 @@ pub record KeepIs (text before work : List ℕ) (b : Bases) (n : Counts) (g : La
   pub changed : r.changed ≡ m.changed
   pub runs : r.runs ≡ m.runs
   pub kept : (run : Run) → OnUnit text before b unit count mark run
-      → keep_run run (made_at (segments_of text before b n) text before b g m.first m.segs)
+      → keep_run run (made_at (segments_of text before b n) text before b g (first_of m.first) m.segs)
       ≡ stands_at (segments_of text before b n) text work b n g r m.steps
 
 -- The run of `count` steps from step i on is turned.
@@ -139,7 +139,7 @@ pub record TurnIs (text before work : List ℕ) (b : Bases) (n : Counts) (g : La
   pub grown : Grown text before work b n g n.paths m r count
   pub changed : r.changed ≡ m.changed
   pub turned : (ss fs : List Segment) → Folds ss fs text before b n g
-      → turn ss fs (record { step = step_no text before b i; count = count }) (made_at ss text before b g m.first m.segs) ≡ stands_at ss text work b n g r m.steps
+      → turn ss fs (record { step = step_no text before b i; count = count }) (made_at ss text before b g (first_of m.first) m.segs) ≡ stands_at ss text work b n g r m.steps
   pub runs : (ss fs : List Segment) → Folds ss fs text before b n g → r.runs ≡ m.runs + bit (is_folded_run fs (record { step = step_no text before b i; count = count }))
 
 -- The runs of the steps from `first` up to `end` are turned.
@@ -147,7 +147,7 @@ pub record StepsTurned (text before work : List ℕ) (b : Bases) (n : Counts) (g
   pub grown : Grown text before work b n g n.paths m r (end - first)
   pub changed : r.changed ≡ m.changed
   pub turned : (ss fs : List Segment) → Folds ss fs text before b n g
-      → transform_runs ss fs (runs_of (steps_from text before b first end)) (made_at ss text before b g m.first m.segs) ≡ stands_at ss text work b n g r m.steps
+      → transform_runs ss fs (runs_of (steps_from text before b first end)) (made_at ss text before b g (first_of m.first) m.segs) ≡ stands_at ss text work b n g r m.steps
   pub runs : (ss fs : List Segment) → Folds ss fs text before b n g → r.runs ≡ m.runs + count_of (is_folded_run fs) (runs_of (steps_from text before b first end))
 
 -- ---- a path
@@ -162,7 +162,7 @@ pub record NextIs (text before work : List ℕ) (b : Bases) (n : Counts) (g : La
   pub first_step : (path_words work g p).first ≡ m.steps
   pub last_step : (path_words work g p).end ≡ r.steps
   pub turned : (ss fs : List Segment) → Folds ss fs text before b n g
-      → transform_runs ss fs (runs_of (path_no text before b p).steps) (made_at ss text before b g m.first m.segs) ≡ stands_at ss text work b n g r m.steps
+      → transform_runs ss fs (runs_of (path_no text before b p).steps) (made_at ss text before b g (first_of m.first) m.segs) ≡ stands_at ss text work b n g r m.steps
   pub runs : (ss fs : List Segment) → Folds ss fs text before b n g → r.runs ≡ m.runs + count_of (is_folded_run fs) (runs_of (path_no text before b p).steps)
   pub changed : (ss fs : List Segment) → Folds ss fs text before b n g → r.changed ≡ m.changed + bit (any (is_folded_run fs) (runs_of (path_no text before b p).steps))
   pub few : r.changed ≤ m.changed + 1

@@ -35,7 +35,7 @@ use Rattle.normalize_tables.specs.declared.layout.Layout.{Layout}
 use Rattle.normalize_tables.specs.declared.layout.Made.{Made}
 use Rattle.normalize_tables.specs.Layout.{Source}
 use Rattle.normalize_tables.specs.Marks.{Marked}
-use Rattle.normalize_tables.specs.News.{news_at, names_at, place_of}
+use Rattle.normalize_tables.specs.News.{first_of, news_at, names_at, place_of}
 use Rattle.normalize_tables.proofs.Sources.{marked_stands, standing}
 use Rattle.normalize_tables.proofs.Numbered.{passes_named, passes_none}
 use Rattle.normalize_tables.proofs.NewByNumber.{ends_joined, ends_stand}
@@ -108,7 +108,7 @@ module _ {text w : List ℕ} {b : Bases} {n : Counts} {g : Layout} (l : LinkWord
 
 -- the ends, by the searches for their nodes
 pub ends_are : {text w : List ℕ} {b : Bases} {n : Counts} {g : Layout} {m : Made} {l : LinkWords} {from to : Option ℕ} {gone : Bool} → Relinkable text w b n g m
-    → NodeIs text w b n g m.first m.segs l.from from → NodeIs text w b n g m.first m.segs l.to to → GoneIs text w b n g l from gone
+    → NodeIs text w b n g (first_of m.first) m.segs l.from from → NodeIs text w b n g (first_of m.first) m.segs l.to to → GoneIs text w b n g l from gone
     → EndsIs text w b n g m l (record { from = from; to = to; gone = gone })
 ends_are s f t d =
     let few = s.source.readable.few in
@@ -148,9 +148,9 @@ module _ {text w w' : List ℕ} {b : Bases} {n : Counts} {g : Layout} {m : Made}
   link_same : link_no text w' b i ≡ link_of text l
   link_same = link_stands s.0.source.readable (front_kept s.0.source put_kept) i s.1 ∙ here.link
 
-  settled_row : (p : Segment → Bool) → Marked p text w b n g.folded → EndsRow text (names_at text w b n g m.first m.segs) (keep p (segments_of text w b n)) w' b g i
+  settled_row : (p : Segment → Bool) → Marked p text w b n g.folded → EndsRow text (names_at text w b n g (first_of m.first) m.segs) (keep p (segments_of text w b n)) w' b g i
   settled_row p k =
-      let news = map (λ x. x.id) (news_at text w b g m.first m.segs) in
+      let news = map (λ x. x.id) (news_at text w b g (first_of m.first) m.segs) in
       record {
         from = rw link_same (ap (λ e. e.from) put.words ∙ q.from.answer);
         to = rw link_same (ap (λ e. e.to) put.words ∙ q.to.answer);
@@ -180,7 +180,7 @@ pub record Ending (text before work : List ℕ) (b : Bases) (n : Counts) (g : La
   pub ready : Relinkable text work b n g m
   pub high : i ≤ n.links
   pub rows : (p : Segment → Bool) → Marked p text before b n g.folded → (j : ℕ) → j < i
-      → EndsRow text (names_at text before b n g m.first m.segs) (keep p (segments_of text before b n)) work b g j
+      → EndsRow text (names_at text before b n g (first_of m.first) m.segs) (keep p (segments_of text before b n)) work b g j
   pub counted : (p : Segment → Bool) → Marked p text before b n g.folded
       → removed ≡ count (is_removed (keep p (segments_of text before b n))) (links_to text before b i)
   pub few : removed ≤ count is_self_link (links_to text before b i)
@@ -222,7 +222,7 @@ module _ {text before : List ℕ} {b : Bases} {n : Counts} {g : Layout} {m : Mad
 
       -- and its row, for the names and segments of before
       new_row : (p : Segment → Bool) → Marked p text before b n g.folded
-          → EndsRow text (names_at text before b n g m.first m.segs) (keep p (segments_of text before b n)) work' b g i
+          → EndsRow text (names_at text before b n g (first_of m.first) m.segs) (keep p (segments_of text before b n)) work' b g i
       new_row p k =
           rw (names_kept src ending_kept s.relinkable.rows, (standing src (front_kept src ending_kept)).of_segments) at (q.row p (marks_stand ending_kept src k))
 
@@ -247,7 +247,7 @@ module _ {text before : List ℕ} {b : Bases} {n : Counts} {g : Layout} {m : Mad
             relinkable = s.relinkable;
             ready = q.ready;
             high = omega arith;
-            rows = λ p k. below_more (λ j. EndsRow text (names_at text before b n g m.first m.segs) (keep p (segments_of text before b n)) work' b g j) i
+            rows = λ p k. below_more (λ j. EndsRow text (names_at text before b n g (first_of m.first) m.segs) (keep p (segments_of text before b n)) work' b g j) i
                 (λ j l. old_row j l (s.rows p k j l)) (new_row p k);
             counted = λ p k. rw (count_more, s.counted p k, y.0, gone_here p k);
             few = rw (count_more is_self_link text before b i) (omega (arith, s.few, few_here, y.0));

@@ -16,7 +16,7 @@ use Rattle.normalize_tables.specs.declared.layout.Layout.{Layout}
 use Rattle.normalize_tables.specs.declared.layout.Made.{Made}
 use Rattle.normalize_tables.specs.Layout.{Source}
 use Rattle.normalize_tables.specs.Marks.{Marked}
-use Rattle.normalize_tables.specs.News.{names_at, place_of}
+use Rattle.normalize_tables.specs.News.{first_of, names_at, place_of}
 use Rattle.normalize_tables.specs.NewByNumber.{new_paths_to, ends_no, EndsRoom, ends_span}
 use Rattle.normalize_tables.specs.Rewritten.{NewRows}
 use Rattle.normalize_tables.specs.declared.rows.Ends.{Ends}
@@ -29,8 +29,8 @@ use Rattle.new_ids.specs.Ids.{NodeIs}
 pub record Relinkable (text work : List ℕ) (b : Bases) (n : Counts) (g : Layout) (m : Made) : Type 0 where
   pub source : Source text work b n g
   pub rows : NewRows work n g m
-  pub apart : distinct (names_at text work b n g m.first m.segs) ≡ true
-  pub steps : m.steps ≡ sum (map length (new_paths_to (names_at text work b n g m.first m.segs) work g n.paths))
+  pub apart : distinct (names_at text work b n g (first_of m.first) m.segs) ≡ true
+  pub steps : m.steps ≡ sum (map length (new_paths_to (names_at text work b n g (first_of m.first) m.segs) work g n.paths))
 
 -- ---- the ends of a link
 
@@ -43,8 +43,8 @@ pub record GoneIs (text work : List ℕ) (b : Bases) (n : Counts) (g : Layout) (
 
 -- The ends of a link; their words are small.
 pub record EndsIs (text work : List ℕ) (b : Bases) (n : Counts) (g : Layout) (m : Made) (l : LinkWords) (r : Ends) : Type 0 where
-  pub from : NodeIs text work b n g m.first m.segs l.from r.from
-  pub to : NodeIs text work b n g m.first m.segs l.to r.to
+  pub from : NodeIs text work b n g (first_of m.first) m.segs l.from r.from
+  pub to : NodeIs text work b n g (first_of m.first) m.segs l.to r.to
   pub gone : GoneIs text work b n g l r.from r.gone
   pub small : (word_of r.from < 4294967296) × (word_of r.to < 4294967296)
   pub room : EndsRoom work g n.links
@@ -59,7 +59,7 @@ pub record EndsRow (text : List ℕ) (names : List (List ℕ)) (fs : List Segmen
 pub record EndsSettled (text before work : List ℕ) (b : Bases) (n : Counts) (g : Layout) (m : Made) (i : ℕ) (r : Bool) : Type 0 where
   pub ready : Relinkable text work b n g m
   pub row : (p : Segment → Bool) → Marked p text before b n g.folded
-      → EndsRow text (names_at text before b n g m.first m.segs) (keep p (segments_of text before b n)) work b g i
+      → EndsRow text (names_at text before b n g (first_of m.first) m.segs) (keep p (segments_of text before b n)) work b g i
   pub answer : r ≡ (ends_no work g i).gone
   pub few : bit r ≤ bit (is_self_link (link_no text before b i))
   pub long : length work ≡ length before
@@ -69,7 +69,7 @@ pub record EndsSettled (text before work : List ℕ) (b : Bases) (n : Counts) (g
 pub record AllEnds (text before work : List ℕ) (b : Bases) (n : Counts) (g : Layout) (m : Made) (r : ℕ) : Type 0 where
   pub ready : Relinkable text work b n g m
   pub rows : (p : Segment → Bool) → Marked p text before b n g.folded → (i : ℕ) → i < n.links
-      → EndsRow text (names_at text before b n g m.first m.segs) (keep p (segments_of text before b n)) work b g i
+      → EndsRow text (names_at text before b n g (first_of m.first) m.segs) (keep p (segments_of text before b n)) work b g i
   pub removed : (p : Segment → Bool) → Marked p text before b n g.folded
       → r ≡ count (is_removed (keep p (segments_of text before b n))) (links_to text before b n.links)
   pub few : r ≤ count is_self_link (links_to text before b n.links)

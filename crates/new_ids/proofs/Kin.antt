@@ -2,16 +2,17 @@
 use Prim.Native.Nat.{ℕ, zero, suc, ◌+◌, ◌-◌, ◌≤◌, ◌<◌}
 use native.Mathlib.Omega.{arith}
 use mathlib.Core.Bool.{Bool, true, false, ◌||◌, or-true, or-false}
+use Rattle.std.specs.Prelude.{Option, None, Some}
 use mathlib.Core.List.{List, map, map-append}
 use mathlib.Core.Path.{◌≡◌, refl, sym, ap, ◌∙◌}
-use lib.Dec.{ltb}
-use borrow.Author.Tests.{ltb-false, le-ltb, eqb-true, eq-eqb, not-true}
+use lib.Dec.{ltb, eqb}
+use borrow.Author.Tests.{ltb-false, lt-ltb, le-ltb, ne_eqb, eqb-true, eq-eqb, not-true}
 use borrow.Author.Count.{below_more}
 use Rattle.gfa_spec.specs.Bytes.{any, same}
 use Rattle.gfa_spec.specs.Decimal.{largest64}
 use Rattle.gfa_spec.proofs.Parts.{by_order}
 use Rattle.gfa_spec.proofs.Tests.{clash, both, refute, same_equal, equal_same, same_refl, same_sym, any_append}
-use Rattle.normalize_spec.specs.Folding.{sanitized, base_name, taken}
+use Rattle.normalize_spec.specs.Folding.{usable, sanitized, base_name, taken}
 use Rattle.normalize_spec.specs.NewNames.{new_name}
 use Rattle.normalize_spec.proofs.NewNames.{name_same}
 use Rattle.normalize_spec.proofs.FreeNames.{some_free, first_free, number_not_name}
@@ -30,7 +31,7 @@ use Rattle.normalize_tables.specs.declared.rows.NewSegmentWords.{NewSegmentWords
 use Rattle.normalize_tables.specs.NewByNumber.{NewSegmentIs}
 use Rattle.normalize_tables.proofs.Nodes.{names_length, names_more, news_more}
 use Rattle.new_ids.specs.Ids.{is_kin, Tried, SuffixIs}
-use Rattle.new_ids.proofs.NewRows.{named_id, numbered_id}
+use Rattle.new_ids.proofs.NewRows.{number_small, number_large, named_id, numbered_id}
 use Rattle.new_ids.proofs.Finding.{names_longer}
 
 -- a name depends on the sanitized unit only
@@ -54,6 +55,24 @@ module _ (text work : List ℕ) (b : Bases) (g : Layout) (first : ℕ) (unit : L
       → is_kin text b g first work unit count j ≡ true
   unfolding is_kin
   facts_kin named times units = rw (le-ltb (first + j) largest64 named, eq-eqb _ _ times, equal_same _ _ units)
+
+  -- a new segment that has a number is none
+  pub kin_number : {o : Option ℕ} {v : ℕ} → o ≡ usable (Some (first + j)) → o ≡ Some v → false ≡ is_kin text b g first work unit count j
+  unfolding is_kin
+  kin_number e h = rw (lt-ltb (first + j) largest64 (number_small e h).0) refl
+
+  -- one that has a name, and another run length, or the same
+  module _ {n : Counts} {r : NewSegmentWords} {o : Option ℕ} (e : o ≡ usable (Some (first + j))) (h : o ≡ None) (x : NewSegmentIs text work b n g first j r) where
+    pub kin_other : (r.count ≡ count → ⊥) → eqb r.count count ≡ is_kin text b g first work unit count j
+    unfolding is_kin
+    kin_other d = rw (le-ltb (first + j) largest64 (number_large e h), x.new, ne_eqb _ _ d) refl
+
+    pub kin_same : {id : List ℕ} {q : Bool} → r.count ≡ count → id ≡ (segment_no text work b r.unit.0).id → q ≡ same (sanitized id) (sanitized unit)
+        → q ≡ is_kin text b g first work unit count j
+    unfolding is_kin
+    kin_same d u q = q ∙ rw (le-ltb (first + j) largest64 (number_large e h), x.new, eq-eqb _ _ d, u) refl
+
+pub ruleset kinship = (kin_number, kin_other, kin_same)
 
 -- ---- the last of them
 

@@ -1,9 +1,9 @@
 -- The number of the first new segment: the search for the largest ID. Assumes nothing.
-use Prim.Native.Nat.{ℕ, ◌+◌, ◌≤◌, ◌<◌, min, max}
+use Prim.Native.Nat.{ℕ, suc, ◌+◌, ◌≤◌, ◌<◌, max}
 use native.Mathlib.Omega.{arith}
 use mathlib.Core.List.{List}
-use Rattle.std.specs.Prelude.{Option, None, Some}
-use mathlib.Core.Path.{◌≡◌, sym, ◌∙◌}
+use Rattle.std.specs.Prelude.{Option, None, Some, SomeIff}
+use mathlib.Core.Path.{◌≡◌, refl, sym, ◌∙◌}
 use borrow.Author.Tests.{lt-ltb, le-ltb}
 use Rattle.gfa_spec.proofs.Parts.{by_order}
 use Rattle.gfa_spec.specs.Decimal.{largest64, number_of}
@@ -14,7 +14,6 @@ use Rattle.tables.specs.declared.rows.SegmentWords.{SegmentWords}
 use Rattle.scan.specs.Places.{bytes_in}
 use Rattle.tables.specs.ByNumber.{segments_of, SegmentIs, segments_from}
 use Rattle.tables.proofs.ByNumber.{segments_next, segments_none}
-use Rattle.normalize_tables.specs.News.{first_of, first_number}
 
 -- The state at i: the largest ID is the larger of what was found and the largest of the IDs from i on.
 pub record Growing (text work : List ℕ) (b : Bases) (n : Counts) (largest i : ℕ) : Type 0 where
@@ -25,12 +24,12 @@ pub record Growing (text work : List ℕ) (b : Bases) (n : Counts) (largest i : 
 module _ {text work : List ℕ} {b : Bases} {n : Counts} {largest i : ℕ} (s : Growing text work b n largest i) where
   module _ (l : i < n.segs) {unit : SegmentWords} {r : Option ℕ} (u : SegmentIs text work b i unit) (e : r ≡ number_of (bytes_in text unit.id)) where
     -- an ID that is no number
-    pub growing_stop : r ≡ None → 18446744073709551615 ≡ first_number (segments_of text work b n)
-    unfolding first_number first_of none_made next_after usable largest64 largest_id
-    growing_stop t =
+    pub growing_stop : {a : Option ℕ} → r ≡ None → a ≡ None → a ≡ (none_made (segments_of text work b n)).next
+    unfolding none_made next_after usable largest_id
+    growing_stop t q =
         let other = sym e ∙ t in
         let whole : largest_id 0 (segments_of text work b n) ≡ None = s.rest ∙ rw (segments_next text work b n i l, u.segment, other, largest_id) in
-        rw whole
+        q ∙ rw whole refl
 
     -- one more number
     pub growing_more : {v m : ℕ} → r ≡ Some v → v ≤ 18446744073709551615 → m ≡ max largest v → Growing text work b n m (i + 1)
@@ -45,10 +44,9 @@ module _ {text work : List ℕ} {b : Bases} {n : Counts} {largest i : ℕ} (s : 
   growing_all l = s.rest ∙ rw (segments_none text work b n i l)
 
   -- the next is the first of the new; no number is behind the largest of all
-  pub growing_end : {r : ℕ} → n.segs ≤ i → r ≡ min (largest + 1) 18446744073709551615 → r ≡ first_number (segments_of text work b n)
-  unfolding first_number first_of none_made next_after usable largest64
-  growing_end l e = by_order 18446744073709551615 largest
-      (λ h. let all : largest ≡ 18446744073709551615 = omega (arith, s.small) in rw (growing_all l, le-ltb largest 18446744073709551615 h) (omega arith))
-      (λ h. rw (growing_all l, lt-ltb largest 18446744073709551615 h) (omega arith))
+  pub growing_end : {r : Option ℕ} → n.segs ≤ i → SomeIff r (largest + 1 < 18446744073709551616) (largest + 1) → r ≡ (none_made (segments_of text work b n)).next
+  unfolding none_made next_after usable largest64
+  growing_end {r = None} l e = rw (growing_all l, le-ltb largest 18446744073709551615 (by_order 18446744073709551615 largest (λ h. h) (λ h. absurd (e (omega arith))))) refl
+  growing_end {r = Some v} l e = let next : v ≡ suc largest = omega (arith, e.1) in rw (growing_all l, lt-ltb largest 18446744073709551615 (omega (arith, e.0)), next) refl
 
 pub ruleset growing = (growing_stop, growing_more, growing_end)

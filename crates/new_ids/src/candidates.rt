@@ -4,10 +4,10 @@ ghost use Rattle.gfa_spec.specs.Bytes.{any, same};
 ghost use Rattle.normalize_spec.specs.NewNames.{new_name};
 ghost use Rattle.tables.specs.Segments.{ids_of};
 ghost use Rattle.tables.specs.ByNumber.{segments_of};
-ghost use Rattle.normalize_tables.specs.News.{Suffixed};
+ghost use Rattle.normalize_tables.specs.News.{first_of, Suffixed};
 ghost use Rattle.new_ids.specs.Ids.{Named, is_kin, Tried};
 
-use crate::rows::{is_numbered, segment_id};
+use crate::rows::{new_number, segment_id};
 use new_names::names::is_new_name;
 use new_names::sanitized::same_sanitized;
 use normalize_tables::layout::Area;
@@ -16,23 +16,25 @@ use tables::entry::SegmentNo;
 use tables::graph::Graph;
 
 // Has new segment j a name of the same sanitized unit and the same run length?
-#[tactic(auto, unfolding(crate::specs::Ids::is_kin))]
+#[tactic(auto, using(crate::proofs::Kin::kinship))]
 pub fn is_kin(text: &[u8], work: &[u32], a: Area, j: usize, unit: &[u8], count: usize) -> bool
     requires { Named text.now work.now a.b a.n a.g a.m.segs × (j < a.m.segs) }
-    ensures { result ≡ is_kin text.now a.b a.g a.m.first work.now unit.now count j }
+    ensures { result ≡ is_kin text.now a.b a.g (first_of a.m.first) work.now unit.now count j }
 {
-    if is_numbered(a.m.first, j) {
-        return false;
+    match new_number(a.m.first, j) {
+        Some(_) => false,
+        None => {
+            let row = new_segment_at(text, work, a, j);
+            row.count == count && same_sanitized(segment_id(text, work, a, row.unit), unit)
+        }
     }
-    let row = new_segment_at(text, work, a, j);
-    row.count == count && same_sanitized(segment_id(text, work, a, row.unit), unit)
 }
 
 // The suffix behind that of the last such segment: all before it are taken, and no new segment has it or one behind it.
 #[tactic(auto, using(crate::proofs::Kin::backwards_hit))]
 pub fn next_suffix(text: &[u8], work: &[u32], a: Area, unit: &[u8], count: usize) -> usize
-    requires { Named text.now work.now a.b a.n a.g a.m.segs × Suffixed text.now work.now a.b a.n a.g a.m.first a.m.segs }
-    ensures { Tried text.now work.now a.b a.n a.g a.m.first a.m.segs unit.now count result }
+    requires { Named text.now work.now a.b a.n a.g a.m.segs × Suffixed text.now work.now a.b a.n a.g (first_of a.m.first) a.m.segs }
+    ensures { Tried text.now work.now a.b a.n a.g (first_of a.m.first) a.m.segs unit.now count result }
 {
     for j in (0..a.m.segs).rev() {
         if is_kin(text, work, a, j, unit, count) {

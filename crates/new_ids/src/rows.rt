@@ -1,10 +1,10 @@
 // The IDs of the new segments.
-ghost use Rattle.std.specs.Prelude.{◌≡◌, ◌+◌, ◌<◌, ltb};
+ghost use Rattle.std.specs.Prelude.{◌≡◌, ◌+◌, ◌<◌, Some};
 ghost use Rattle.gfa_spec.specs.Bytes.{same};
-ghost use Rattle.gfa_spec.specs.Decimal.{largest64};
+ghost use Rattle.normalize_spec.specs.Folding.{usable};
 ghost use Rattle.tables.specs.ByNumber.{segment_no};
 ghost use Rattle.tables.specs.Tables.{Readable};
-ghost use Rattle.normalize_tables.specs.News.{new_at};
+ghost use Rattle.normalize_tables.specs.News.{first_of, new_at};
 ghost use Rattle.writers.specs.Writers.{Puts};
 ghost use Rattle.new_ids.specs.Ids.{Named};
 
@@ -16,12 +16,15 @@ use tables::graph::Graph;
 use writers::numbers::put_decimal;
 use writers::writer::Writer;
 
-// Has new segment j a number? Else it has a name. No sum is made that could be too large.
-#[tactic(auto, unfolding(gfa_spec::specs::Decimal::largest64))]
-pub fn is_numbered(first: u64, j: usize) -> bool
-    ensures { result ≡ ltb (first + j) largest64 }
+// The number of new segment j, where it has one; else it has a name. No sum is made that could be too large.
+#[tactic(auto, unfolding(normalize_spec::specs::Folding::usable, gfa_spec::specs::Decimal::largest64, normalize_tables::specs::News::first_of))]
+pub fn new_number(first: Option<u64>, j: usize) -> Option<u64>
+    ensures { result ≡ usable (Some (first_of first + j)) }
 {
-    (j as u64) < u64::MAX - first
+    match first {
+        Some(number) if (j as u64) < u64::MAX - number => Some(number + j as u64),
+        _ => None,
+    }
 }
 
 // The ID of segment `i` of the text.
@@ -40,38 +43,41 @@ pub fn segment_id<'a>(text: &'a [u8], work: &[u32], a: Area, i: SegmentNo) -> &'
 }
 
 // The ID of new segment j, written.
-#[tactic(auto, unfolding(gfa_spec::specs::Decimal::largest64))]
+#[tactic(auto, using(crate::proofs::NewRows::written))]
 pub fn put_new_id(w: &mut Writer, text: &[u8], work: &[u32], a: Area, j: usize)
     requires { Named text.now work.now a.b a.n a.g a.m.segs × (j < a.m.segs) }
-    ensures { Puts w.old (new_at text.now a.b a.g a.m.first work.now j).id w.new }
+    ensures { Puts w.old (new_at text.now a.b a.g (first_of a.m.first) work.now j).id w.new }
 {
-    if is_numbered(a.m.first, j) {
-        put_decimal(w, a.m.first + j as u64);
-    } else {
-        let row = new_segment_at(text, work, a, j);
-        put_new_name(
-            w,
-            segment_id(text, work, a, row.unit),
-            row.count,
-            row.suffix,
-        );
+    match new_number(a.m.first, j) {
+        Some(number) => put_decimal(w, number),
+        None => {
+            let row = new_segment_at(text, work, a, j);
+            put_new_name(
+                w,
+                segment_id(text, work, a, row.unit),
+                row.count,
+                row.suffix,
+            );
+        }
     }
 }
 
 // Is the name the ID of new segment j?
-#[tactic(auto, unfolding(gfa_spec::specs::Decimal::largest64))]
+#[tactic(auto, using(crate::proofs::NewRows::compared))]
 pub fn is_new_id(text: &[u8], work: &[u32], a: Area, j: usize, name: &[u8]) -> bool
     requires { Named text.now work.now a.b a.n a.g a.m.segs × (j < a.m.segs) }
-    ensures { result ≡ same (new_at text.now a.b a.g a.m.first work.now j).id name.now }
+    ensures { result ≡ same (new_at text.now a.b a.g (first_of a.m.first) work.now j).id name.now }
 {
-    if is_numbered(a.m.first, j) {
-        return is_decimal(name, a.m.first + j as u64);
+    match new_number(a.m.first, j) {
+        Some(number) => is_decimal(name, number),
+        None => {
+            let row = new_segment_at(text, work, a, j);
+            is_new_name(
+                segment_id(text, work, a, row.unit),
+                row.count,
+                row.suffix,
+                name,
+            )
+        }
     }
-    let row = new_segment_at(text, work, a, j);
-    is_new_name(
-        segment_id(text, work, a, row.unit),
-        row.count,
-        row.suffix,
-        name,
-    )
 }

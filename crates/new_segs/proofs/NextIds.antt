@@ -2,10 +2,10 @@
 use Prim.Native.Nat.{ℕ, zero, suc, ◌+◌, ◌≤◌, ◌<◌}
 use native.Mathlib.Nat.{add-zero, add-suc}
 use native.Mathlib.Omega.{arith}
-use mathlib.Core.Bool.{Bool, true, false, cond}
+use mathlib.Core.Bool.{false, cond}
 use mathlib.Core.List.{List}
 use Rattle.std.specs.Prelude.{Option, None, Some}
-use mathlib.Core.Path.{◌≡◌, refl, sym, ◌∙◌}
+use mathlib.Core.Path.{◌≡◌, refl, sym}
 use lib.Dec.{ltb}
 use borrow.Author.Tests.{lt-ltb, ltb-true, ltb-false}
 use Rattle.gfa_spec.specs.Decimal.{largest64}
@@ -18,6 +18,7 @@ use Rattle.tables.specs.ByNumber.{segments_of}
 use Rattle.normalize_tables.specs.declared.layout.Layout.{Layout}
 use Rattle.normalize_tables.specs.News.{first_of, first_number, new_id_of}
 use Rattle.new_ids.specs.Ids.{SuffixIs}
+use Rattle.new_ids.proofs.NewRows.{number_small, number_large}
 use Rattle.new_segs.specs.Makes.{next_at, Making, SuffixFor}
 
 -- a number that may be used, or none
@@ -70,14 +71,16 @@ module _ {text work : List ℕ} {b : Bases} {n : Counts} {g : Layout} {first q :
         few = s.few;
       }
 
-  module _ {t : Bool} (e : t ≡ ltb (first + q) largest64) where
+  module _ {o : Option ℕ} (e : o ≡ usable (Some (first + q))) where
     -- a number
-    pub suffix_number : {unit count : ℕ} → t ≡ true → SuffixFor text work b n g first q unit count 0
-    suffix_number f = number_suffix (ltb-true (first + q) largest64 (sym e ∙ f))
+    pub suffix_number : {unit count k : ℕ} → o ≡ Some k → SuffixFor text work b n g first q unit count 0
+    suffix_number f = number_suffix (number_small e f).0
 
     -- a name
-    pub suffix_large : t ≡ false → largest64 ≤ first + q
-    suffix_large f = ltb-false (first + q) largest64 (sym e ∙ f)
+    pub suffix_large : o ≡ None → largest64 ≤ first + q
+    suffix_large f = number_large e f
 
-    pub suffix_name : {unit count r : ℕ} → t ≡ false → SuffixIs text work b n g first q unit count r → SuffixFor text work b n g first q unit count r
+    pub suffix_name : {unit count r : ℕ} → o ≡ None → SuffixIs text work b n g first q unit count r → SuffixFor text work b n g first q unit count r
     suffix_name f s = name_suffix (suffix_large f) s
+
+pub ruleset suffixing = (suffix_large, suffix_name)

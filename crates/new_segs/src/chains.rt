@@ -2,6 +2,7 @@
 ghost use Rattle.std.specs.Prelude.{◌+◌, ◌<◌, length};
 ghost use Rattle.new_segs.specs.Chains.{MadeIs, LastPut};
 ghost use Rattle.new_segs.specs.Makes.{Making};
+ghost use Rattle.normalize_tables.specs.News.{first_of};
 
 use normalize_tables::layout::{Area, Layout};
 use normalize_tables::rows::{new_segment_at, number_at};
@@ -9,7 +10,7 @@ use tables::entry::SegmentNo;
 
 // The last new segment that was made of the unit and the run length, if there is one.
 pub fn made_for(text: &[u8], work: &[u32], a: Area, unit: SegmentNo, count: usize) -> Option<usize>
-    requires { Making text.now work.now a.b a.n a.g a.m.first a.m.segs × (unit.0 < a.n.segs) }
+    requires { Making text.now work.now a.b a.n a.g (first_of a.m.first) a.m.segs × (unit.0 < a.n.segs) }
     ensures { MadeIs work.now a.g a.m.segs unit.0 count result }
 {
     let mut last = number_at(work, a.g.last + unit.0 as usize);

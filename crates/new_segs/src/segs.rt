@@ -1,29 +1,31 @@
 // New segments: one row more (document 01, "Folding", rules 4 and 5).
 ghost use Rattle.std.specs.Prelude.{◌≤◌, ◌<◌};
 ghost use Rattle.new_segs.specs.Makes.{Making, SuffixFor, Wanted, RowFor, SegmentMade};
+ghost use Rattle.normalize_tables.specs.News.{first_of};
 
 use crate::chains::put_last;
 use new_ids::ids::free_suffix;
-use new_ids::rows::is_numbered;
+use new_ids::rows::new_number;
 use normalize_tables::layout::Area;
 use normalize_tables::rows::{NewSegmentWords, number_at, put_new_segment};
 use tables::entry::SegmentNo;
 
 // The suffix of the next new segment: 0 where its ID is a number, else the first that is free.
+#[tactic(auto, using(crate::proofs::NextIds::suffixing))]
 pub fn new_suffix(text: &[u8], work: &[u32], a: Area, unit: SegmentNo, count: usize) -> usize
-    requires { Making text.now work.now a.b a.n a.g a.m.first a.m.segs × (unit.0 < a.n.segs) × (count ≤ a.n.steps) }
-    ensures { SuffixFor text.now work.now a.b a.n a.g a.m.first a.m.segs unit.0 count result }
+    requires { Making text.now work.now a.b a.n a.g (first_of a.m.first) a.m.segs × (unit.0 < a.n.segs) × (count ≤ a.n.steps) }
+    ensures { SuffixFor text.now work.now a.b a.n a.g (first_of a.m.first) a.m.segs unit.0 count result }
 {
-    if is_numbered(a.m.first, a.m.segs) {
-        return 0;
+    match new_number(a.m.first, a.m.segs) {
+        Some(_) => 0,
+        None => free_suffix(text, work, a, unit, count),
     }
-    free_suffix(text, work, a, unit, count)
 }
 
 // The row of the next new segment, of the unit and the run length, which none is of yet.
 pub fn new_row(text: &[u8], work: &[u32], a: Area, unit: SegmentNo, count: usize) -> NewSegmentWords
-    requires { Wanted text.now work.now a.b a.n a.g a.m.first a.m.segs unit.0 count }
-    ensures { RowFor text.now work.now a.b a.n a.g a.m.first a.m.segs unit.0 count result }
+    requires { Wanted text.now work.now a.b a.n a.g (first_of a.m.first) a.m.segs unit.0 count }
+    ensures { RowFor text.now work.now a.b a.n a.g (first_of a.m.first) a.m.segs unit.0 count result }
 {
     NewSegmentWords {
         unit,
@@ -35,8 +37,8 @@ pub fn new_row(text: &[u8], work: &[u32], a: Area, unit: SegmentNo, count: usize
 
 // Makes it: its row is put behind the others, and it is the last on its unit.
 pub fn make_segment(text: &[u8], work: &mut [u32], a: Area, unit: SegmentNo, count: usize)
-    requires { Wanted text.now work.old a.b a.n a.g a.m.first a.m.segs unit.0 count }
-    ensures { SegmentMade text.now work.old work.new a.b a.n a.g a.m.first a.m.segs unit.0 count }
+    requires { Wanted text.now work.old a.b a.n a.g (first_of a.m.first) a.m.segs unit.0 count }
+    ensures { SegmentMade text.now work.old work.new a.b a.n a.g (first_of a.m.first) a.m.segs unit.0 count }
 {
     let row = new_row(text, work, a, unit, count);
     put_new_segment(work, a.g, a.m.segs, row);

@@ -25,7 +25,7 @@ use Rattle.normalize_tables.specs.declared.layout.Layout.{Layout}
 use Rattle.normalize_tables.specs.declared.layout.Made.{Made}
 use Rattle.normalize_tables.specs.Layout.{Placed, Source}
 use Rattle.normalize_tables.specs.Marks.{Marked}
-use Rattle.normalize_tables.specs.News.{new_at, news_at, names_at, key_at, keys_at}
+use Rattle.normalize_tables.specs.News.{first_of, new_at, news_at, names_at, key_at, keys_at}
 use Rattle.normalize_tables.specs.Rewritten.{Folded, Relinked}
 use Rattle.normalize_tables.proofs.Sources.{standing, source_stands, marked_stands}
 use Rattle.normalize_tables.proofs.Nodes.{names_length}
@@ -109,7 +109,7 @@ module _ {text v u : List ℕ} {b : Bases} {n : Counts} {g : Layout} {m : Made} 
   settled_writable =
       record { source = source_kept z.source settled_front q.long; rows = new_rows_kept z.source.placed settled_front z.rows; keys = q.rows; few = q.few }
 
-  settled_names : names_at text u b n g m.first m.segs ≡ names_at text v b n g m.first m.segs
+  settled_names : names_at text u b n g (first_of m.first) m.segs ≡ names_at text v b n g (first_of m.first) m.segs
   settled_names = names_kept z.source settled_front z.rows
 
   settled_tied : {es : List Entry} → Tied es text v b n → Tied es text u b n
@@ -118,10 +118,10 @@ module _ {text v u : List ℕ} {b : Bases} {n : Counts} {g : Layout} {m : Made} 
   settled_folded : {fs : List Segment} → Folded text v b n g fs m → Folded text u b n g fs m
   settled_folded f =
       let k = standing z.source (front_kept z.source settled_front) in
-      let there = paths_kept z.source.placed settled_front z.rows (names_at text v b n g m.first m.segs) in
+      let there = paths_kept z.source.placed settled_front z.rows (names_at text v b n g (first_of m.first) m.segs) in
       record {
         first = f.first ∙ rw k.of_segments;
-        news = news_kept z.source settled_front m.first m.segs z.rows.half z.rows.segs ∙ f.news ∙ rw (k.of_segments, k.of_paths);
+        news = news_kept z.source settled_front (first_of m.first) m.segs z.rows.half z.rows.segs ∙ f.news ∙ rw (k.of_segments, k.of_paths);
         paths = rw settled_names (there ∙ f.paths ∙ rw (k.of_segments, k.of_paths));
         steps = rw (settled_names, there) f.steps;
         runs = f.runs ∙ rw k.of_paths;
@@ -132,7 +132,7 @@ module _ {text v u : List ℕ} {b : Bases} {n : Counts} {g : Layout} {m : Made} 
   settled_is : (es : List Entry) (cap : ℕ) → Tied es text v b n → Marked (is_folded es cap) text v b n g.folded
       → Relinked text u b n g (folded es cap) m l.added
       × (l.removed ≡ count (is_removed (folded es cap)) (links es))
-      × (l.loops ≡ count is_self_link (kept es cap) + count (λ k. same_new_node k.from k.to) (keys_at (names_at text u b n g m.first m.segs) g.steps u g.added l.added))
+      × (l.loops ≡ count is_self_link (kept es cap) + count (λ k. same_new_node k.from k.to) (keys_at (names_at text u b n g (first_of m.first) m.segs) g.steps u g.added l.added))
   unfolding folded kept
   settled_is es cap e h = rw settled_names (rw (e.of_segments, e.of_links) at (q.settled (is_folded es cap) h))
 
@@ -147,19 +147,19 @@ module _ (es : List Entry) (cap : ℕ) {text u : List ℕ} {b : Bases} {n : Coun
   -- as many new segments and added links as rows
   segs_are : m.segs ≡ length (transform es cap).made.new
   unfolding news_at
-  segs_are = sym (rows_length (new_at text b g m.first) 1 u 0 m.segs) ∙ ap length (news_are cap e f)
+  segs_are = sym (rows_length (new_at text b g (first_of m.first)) 1 u 0 m.segs) ∙ ap length (news_are cap e f)
 
   added_are : extra ≡ length (added es cap)
   unfolding keys_at
-  added_are = sym (rows_length (key_at (names_at text u b n g m.first m.segs) g.steps) 1 u g.added extra) ∙ ap length (keys_are cap e f r)
+  added_are = sym (rows_length (key_at (names_at text u b n g (first_of m.first) m.segs) g.steps) 1 u g.added extra) ∙ ap length (keys_are cap e f r)
 
 module _ (es : List Entry) (cap : ℕ) {text v : List ℕ} {b : Bases} {n : Counts} {g : Layout} {m : Made} {d : Pairs} (e : Tied es text v b n) (f : Folded text v b n g (folded es cap) m)
-    (a : NewPairTotals v n g m d) (p : distinct (names_at text v b n g m.first m.segs) ≡ true) where
+    (a : NewPairTotals v n g m d) (p : distinct (names_at text v b n g (first_of m.first) m.segs) ≡ true) where
   node_pairs_are : d.nodes ≡ sum (map (pairs same_new_node) (transform es cap).paths)
-  node_pairs_are = a.nodes _ p (names_length text v b n g m.first m.segs) ∙ rw (paths_are cap e f)
+  node_pairs_are = a.nodes _ p (names_length text v b n g (first_of m.first) m.segs) ∙ rw (paths_are cap e f)
 
   step_pairs_are : d.steps ≡ sum (map (pairs same_new_step) (transform es cap).paths)
-  step_pairs_are = a.steps _ p (names_length text v b n g m.first m.segs) ∙ rw (paths_are cap e f)
+  step_pairs_are = a.steps _ p (names_length text v b n g (first_of m.first) m.segs) ∙ rw (paths_are cap e f)
 
 -- ---- all of it
 

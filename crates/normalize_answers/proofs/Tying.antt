@@ -20,7 +20,7 @@ use Rattle.tables.proofs.Standing.{Standing}
 use Rattle.tables.specs.ByNumber.{segments_of, paths_to}
 use Rattle.normalize_tables.specs.declared.layout.Layout.{Layout}
 use Rattle.normalize_tables.specs.declared.layout.Made.{Made}
-use Rattle.normalize_tables.specs.News.{news_at, names_at, new_paths_at, keys_at}
+use Rattle.normalize_tables.specs.News.{first_of, news_at, names_at, new_paths_at, keys_at}
 use Rattle.normalize_tables.specs.Rewritten.{Folded, Relinked}
 use Rattle.normalize_answers.specs.Tied.{Tied}
 
@@ -49,7 +49,7 @@ tied_itself t =
 
 -- no two IDs of segments and new segments are equal
 pub names_apart : {text w : List ℕ} {b : Bases} {n : Counts} {g : Layout} {fs : List Segment} {m : Made} → Folded text w b n g fs m
-    → distinct (ids_of (segments_of text w b n)) ≡ true → distinct (names_at text w b n g m.first m.segs) ≡ true
+    → distinct (ids_of (segments_of text w b n)) ≡ true → distinct (names_at text w b n g (first_of m.first) m.segs) ≡ true
 unfolding names_at ids_of ids
 names_apart {text} {w} {b} {n} {fs = fs} f d =
     rw f.news
@@ -58,12 +58,12 @@ names_apart {text} {w} {b} {n} {fs = fs} f d =
 
 module _ {es : List Entry} (cap : ℕ) {text w : List ℕ} {b : Bases} {n : Counts} {g : Layout} {m : Made} (t : Tied es text w b n) (f : Folded text w b n g (folded es cap) m) where
   -- the new segments
-  pub news_are : news_at text w b g m.first m.segs ≡ (transform es cap).made.new
+  pub news_are : news_at text w b g (first_of m.first) m.segs ≡ (transform es cap).made.new
   unfolding transform
   news_are = f.news ∙ rw (t.of_segments, t.of_paths)
 
   -- the new paths
-  pub paths_are : new_paths_at (names_at text w b n g m.first m.segs) g.steps w g.paths n.paths ≡ (transform es cap).paths
+  pub paths_are : new_paths_at (names_at text w b n g (first_of m.first) m.segs) g.steps w g.paths n.paths ≡ (transform es cap).paths
   unfolding transform
   paths_are = f.paths ∙ rw (t.of_segments, t.of_paths)
 
@@ -80,6 +80,6 @@ module _ {es : List Entry} (cap : ℕ) {text w : List ℕ} {b : Bases} {n : Coun
 
   -- the added links
   pub keys_are : {extra : ℕ} → Relinked text w b n g (folded es cap) m extra
-      → keys_at (names_at text w b n g m.first m.segs) g.steps w g.added extra ≡ added es cap
+      → keys_at (names_at text w b n g (first_of m.first) m.segs) g.steps w g.added extra ≡ added es cap
   unfolding added kept
   keys_are r = r.keys ∙ rw (t.of_links, paths_are)

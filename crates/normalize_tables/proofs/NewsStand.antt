@@ -12,7 +12,7 @@ use Rattle.tables.proofs.ByNumber.{TablesKept}
 use Rattle.normalize_tables.specs.declared.layout.Layout.{Layout}
 use Rattle.normalize_tables.specs.declared.layout.Made.{Made}
 use Rattle.normalize_tables.specs.Layout.{Placed, Source}
-use Rattle.normalize_tables.specs.News.{news_at, names_at, new_step_at, new_steps_at}
+use Rattle.normalize_tables.specs.News.{first_of, news_at, names_at, new_step_at, new_steps_at}
 use Rattle.normalize_tables.specs.NewByNumber.{new_paths_to, SegmentRows, SegmentsKept, StepsKept, PathsKept}
 use Rattle.normalize_tables.specs.Rewritten.{NewRows}
 use Rattle.normalize_tables.proofs.Sources.{source_stands}
@@ -72,5 +72,5 @@ module _ {text w w' : List ℕ} {b : Bases} {n : Counts} {g : Layout} (s : Sourc
       news-stay s front_kept first e (segments_words g q (kept_within g.segs (g.segs + 4 * q) k (omega arith) (omega arith)))
 
   module _ {m : Made} (r : NewRows w n g m) where
-    pub names_kept : names_at text w' b n g m.first m.segs ≡ names_at text w b n g m.first m.segs
-    names_kept = names-stay s front_kept m.first r.segs (segments_stay s.placed k r)
+    pub names_kept : names_at text w' b n g (first_of m.first) m.segs ≡ names_at text w b n g (first_of m.first) m.segs
+    names_kept = names-stay s front_kept (first_of m.first) r.segs (segments_stay s.placed k r)

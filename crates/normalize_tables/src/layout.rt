@@ -20,11 +20,11 @@ pub struct Layout {
     pub ends: usize,
 }
 
-// What the transformation made: the number that the first new segment has where IDs are numbers, how many new segments and new steps
+// What the transformation made: the number that the first new segment has, where IDs are numbers; how many new segments and new steps
 // there are, how many runs were turned into one step, and how many paths have such a run.
 #[derive(Clone, Copy)]
 pub struct Made {
-    pub first: u64,
+    pub first: Option<u64>,
     pub segs: usize,
     pub steps: usize,
     pub runs: usize,

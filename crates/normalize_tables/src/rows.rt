@@ -2,6 +2,7 @@
 // neither where a row is nor how wide it is.
 ghost use Rattle.std.specs.Prelude.{◌≡◌, ◌+◌, ◌≤◌, ◌<◌, length, get_or};
 ghost use Rattle.work.specs.Rows.{number_in, word_of};
+ghost use Rattle.normalize_tables.specs.News.{first_of};
 ghost use Rattle.normalize_tables.specs.NewByNumber.{NewSegmentThere, NewSegmentIs, NewStepThere, NewStepIs, NewPathThere, NewPathIs, ends_no, SegmentRoom, StepRoom, PathRoom, EndsRoom, NewSegmentPut, NewStepPut, NewPathPut, EndsPut};
 
 use crate::layout::{Area, Layout};
@@ -53,7 +54,7 @@ pub fn number_at(work: &[u32], at: usize) -> Option<usize>
 #[tactic(auto, unfolding(crate::specs::News::new_at))]
 pub fn new_segment_at(text: &[u8], work: &[u32], a: Area, j: usize) -> NewSegmentWords
     requires { NewSegmentThere work.now a.n a.g a.m.segs j }
-    ensures { NewSegmentIs text.now work.now a.b a.n a.g a.m.first j result }
+    ensures { NewSegmentIs text.now work.now a.b a.n a.g (first_of a.m.first) j result }
 {
     let at = a.g.segs + 4 * j;
     let unit = work[at];

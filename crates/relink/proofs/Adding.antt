@@ -27,7 +27,7 @@ use Rattle.tables.proofs.ByNumber.{link_stands}
 use Rattle.normalize_tables.specs.declared.layout.Layout.{Layout}
 use Rattle.normalize_tables.specs.declared.layout.Made.{Made}
 use Rattle.normalize_tables.specs.declared.rows.NewPathWords.{NewPathWords}
-use Rattle.normalize_tables.specs.News.{path_words, names_at, new_paths_at, key_at, keys_at}
+use Rattle.normalize_tables.specs.News.{first_of, path_words, names_at, new_paths_at, key_at, keys_at}
 use Rattle.normalize_tables.specs.NewByNumber.{new_step_no, new_steps_from, new_path_no, new_paths_to, NewPathIs}
 use Rattle.normalize_tables.proofs.Nodes.{same_place}
 use Rattle.normalize_tables.proofs.Sources.{standing}
@@ -292,7 +292,7 @@ module _ (names : List (List ℕ)) (w : List ℕ) (g : Layout) where
 
 -- the IDs of the nodes
 abbrev pub nodes : List ℕ → List ℕ → Bases → Counts → Layout → Made → List (List ℕ)
-nodes text w b n g m = names_at text w b n g m.first m.segs
+nodes text w b n g m = names_at text w b n g (first_of m.first) m.segs
 
 -- The state at path p: the pairs of those before it have links.
 pub record Passing (text before work : List ℕ) (b : Bases) (n : Counts) (g : Layout) (m : Made) (s : Tally) (p : ℕ) : Type 0 where

@@ -21,7 +21,7 @@ use Rattle.tables.proofs.ByNumber.{links_length}
 use Rattle.normalize_tables.specs.declared.layout.Layout.{Layout}
 use Rattle.normalize_tables.specs.declared.layout.Made.{Made}
 use Rattle.normalize_tables.specs.Marks.{Marked}
-use Rattle.normalize_tables.specs.News.{names_at, keys_at}
+use Rattle.normalize_tables.specs.News.{first_of, names_at, keys_at}
 use Rattle.normalize_tables.specs.NewByNumber.{ends_end, new_paths_to}
 use Rattle.normalize_tables.proofs.Nodes.{names_length}
 use Rattle.normalize_tables.proofs.Sources.{standing}
@@ -91,11 +91,11 @@ module _ {text w v : List ℕ} {b : Bases} {n : Counts} {g : Layout} {m : Made} 
       fs = keep p (segments_of text w b n)
 
       names : List (List ℕ)
-      names = names_at text w b n g m.first m.segs
+      names = names_at text w b n g (first_of m.first) m.segs
 
       ended : Ended text names fs v b n g m
       unfolding fs names
-      ended = record { apart = s.apart; all = names_length text w b n g m.first m.segs; ends = a.rows p k }
+      ended = record { apart = s.apart; all = names_length text w b n g (first_of m.first) m.segs; ends = a.rows p k }
 
       -- the added links are those that were missing
       keys : keys_at names g.steps u g.added t.added ≡ missing (kept_keys text fs w b n.links) (join (map adjacent (new_paths_to names w g n.paths)))

@@ -16,7 +16,7 @@ use Rattle.tables.specs.ByNumber.{link_no, segments_of, links_to}
 use Rattle.normalize_tables.specs.declared.layout.Layout.{Layout}
 use Rattle.normalize_tables.specs.declared.layout.Made.{Made}
 use Rattle.normalize_tables.specs.Marks.{Marked}
-use Rattle.normalize_tables.specs.News.{names_at, keys_at, KeyRow}
+use Rattle.normalize_tables.specs.News.{first_of, names_at, keys_at, KeyRow}
 use Rattle.normalize_tables.specs.NewByNumber.{ends_end, new_step_no, new_steps_from, new_paths_to, NewStepIs, step_in, step_is}
 use Rattle.normalize_tables.specs.Rewritten.{Relinked}
 use Rattle.normalize_tables.specs.declared.rows.Ends.{Ends}
@@ -157,7 +157,7 @@ pub record SettledIs (text before work : List ℕ) (b : Bases) (n : Counts) (g :
       → Relinked text work b n g (keep p (segments_of text before b n)) m r.added
       × (r.removed ≡ count (is_removed (keep p (segments_of text before b n))) (links_to text before b n.links))
       × (r.loops ≡ count is_self_link (keep (λ l. not (is_removed (keep p (segments_of text before b n)) l)) (links_to text before b n.links))
-      + count (λ k. same_new_node k.from k.to) (keys_at (names_at text before b n g m.first m.segs) g.steps work g.added r.added))
+      + count (λ k. same_new_node k.from k.to) (keys_at (names_at text before b n g (first_of m.first) m.segs) g.steps work g.added r.added))
   pub rows : EachRow (KeyRow m.steps) 1 work g.added r.added
   pub few : r.added ≤ m.steps
   pub long : length work ≡ length before

@@ -1,4 +1,5 @@
 -- The sections, one behind the other, are the rewritten text. Assumes nothing.
+use Rattle.normalize_tables.specs.News.{first_of}
 use Prim.Native.Nat.{ℕ}
 use mathlib.Core.List.{List, ◌++◌, append_assoc}
 use mathlib.Core.Path.{◌≡◌, ◌∙◌}
@@ -26,7 +27,7 @@ seven a b c d e f g = simp (ended_append, append_assoc)
 
 module _ (text work : List ℕ) (b : Bases) (n : Counts) (g : Layout) (m : Made) {before after : Writer} where
   pub front_put : {x y z : Writer} → Puts before (pieces_to (raw_piece class.Leading text work b) n.lines) x → Puts x (pieces_to (segment_piece text work b) n.segs) y
-      → Puts y (pieces_to (new_piece text work b g m.first) m.segs) z → Puts z (pieces_to (raw_piece class.Other text work b) n.lines) after → Puts before (front_at text work b n g m) after
+      → Puts y (pieces_to (new_piece text work b g (first_of m.first)) m.segs) z → Puts z (pieces_to (raw_piece class.Other text work b) n.lines) after → Puts before (front_at text work b n g m) after
   unfolding front_at
   front_put leading segments new others = as_piece (simp append_assoc) (leading ▷ segments ▷ new ▷ others)
 
@@ -45,7 +46,7 @@ module _ (text work : List ℕ) (b : Bases) (n : Counts) (g : Layout) (m : Made)
         leading_pieces text work b n.lines,
         others_pieces text work b n.lines,
         segment_pieces text work b n.segs,
-        new_pieces text work b m.segs n g m.first,
+        new_pieces text work b m.segs n g (first_of m.first),
         kept_pieces (is_removed fs) text work b g n.links h.removed,
         added_pieces names work g extra,
         paths_pieces names text work b g n.paths,

@@ -11,7 +11,7 @@ use Rattle.tables.specs.ByNumber.{segments_of, links_to, paths_to}
 use Rattle.tables.specs.Entries.{entries_at}
 use Rattle.normalize_tables.specs.declared.layout.Layout.{Layout}
 use Rattle.normalize_tables.specs.declared.layout.Made.{Made}
-use Rattle.normalize_tables.specs.News.{news_at, names_at, keys_at}
+use Rattle.normalize_tables.specs.News.{first_of, news_at, names_at, keys_at}
 use Rattle.normalize_tables.specs.NewByNumber.{new_paths_to}
 use Rattle.normalize_tables.specs.Rewritten.{Relinked}
 use Rattle.writers.specs.declared.writer.Writer.{Writer}
@@ -24,7 +24,7 @@ use Rattle.path_lines.specs.PathPieces.{nodes, path_piece}
 unfoldable pub front_at : List ℕ → List ℕ → Bases → Counts → Layout → Made → List ℕ
 front_at text work b n g m =
     pieces_to (raw_piece class.Leading text work b) n.lines
-    ++ (pieces_to (segment_piece text work b) n.segs ++ (pieces_to (new_piece text work b g m.first) m.segs ++ pieces_to (raw_piece class.Other text work b) n.lines))
+    ++ (pieces_to (segment_piece text work b) n.segs ++ (pieces_to (new_piece text work b g (first_of m.first)) m.segs ++ pieces_to (raw_piece class.Other text work b) n.lines))
 
 -- the text from the links on
 unfoldable pub back_at : List ℕ → List ℕ → Bases → Counts → Layout → Made → ℕ → List ℕ
@@ -36,11 +36,11 @@ back_at text work b n g m extra =
 unfoldable pub rewritten_from : List ℕ → List ℕ → Bases → Counts → Layout → List Segment → Made → ℕ → List ℕ
 rewritten_from text work b n g fs m extra =
     let es = entries_at text work b n.lines in
-    let names = names_at text work b n g m.first m.segs in
+    let names = names_at text work b n g (first_of m.first) m.segs in
     ended (
     leading es
     ++ (map (λ s. s.line) (segments_of text work b n)
-    ++ (map segment_line (news_at text work b g m.first m.segs)
+    ++ (map segment_line (news_at text work b g (first_of m.first) m.segs)
     ++ (others es
     ++ (map (λ l. l.line) (keep (λ l. not (is_removed fs l)) (links_to text work b n.links))
     ++ (map link_line (keys_at names g.steps work g.added extra)

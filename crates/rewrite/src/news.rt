@@ -1,6 +1,6 @@
 // The lines of the new segments.
 ghost use Rattle.std.specs.Prelude.{◌∷◌, ◌<◌};
-ghost use Rattle.normalize_tables.specs.News.{new_at};
+ghost use Rattle.normalize_tables.specs.News.{first_of, new_at};
 ghost use Rattle.new_ids.specs.Ids.{Named};
 ghost use Rattle.writers.specs.Writers.{Puts, pieces_to};
 ghost use Rattle.rewrite.specs.Pieces.{new_piece};
@@ -15,7 +15,7 @@ use writers::writer::Writer;
 // The sequence of new segment `j`, behind a tab: its unit's, repeated.
 pub fn put_sequence(w: &mut Writer, text: &[u8], work: &[u32], a: Area, j: usize)
     requires { Named text.now work.now a.b a.n a.g a.m.segs × (j < a.m.segs) }
-    ensures { Puts w.old (9 ∷ (new_at text.now a.b a.g a.m.first work.now j).sequence) w.new }
+    ensures { Puts w.old (9 ∷ (new_at text.now a.b a.g (first_of a.m.first) work.now j).sequence) w.new }
 {
     let graph = Graph {
         text,
@@ -32,7 +32,7 @@ pub fn put_sequence(w: &mut Writer, text: &[u8], work: &[u32], a: Area, j: usize
 // The line of new segment `j`.
 pub fn put_new_segment(w: &mut Writer, text: &[u8], work: &[u32], a: Area, j: usize)
     requires { Named text.now work.now a.b a.n a.g a.m.segs × (j < a.m.segs) }
-    ensures { Puts w.old (new_piece text.now work.now a.b a.g a.m.first j) w.new }
+    ensures { Puts w.old (new_piece text.now work.now a.b a.g (first_of a.m.first) j) w.new }
 {
     w.put(b"S\t");
     put_new_id(w, text, work, a, j);
@@ -43,7 +43,7 @@ pub fn put_new_segment(w: &mut Writer, text: &[u8], work: &[u32], a: Area, j: us
 // The lines of the new segments.
 pub fn put_new_segments(w: &mut Writer, text: &[u8], work: &[u32], a: Area)
     requires { Named text.now work.now a.b a.n a.g a.m.segs }
-    ensures { Puts w.old (pieces_to (new_piece text.now work.now a.b a.g a.m.first) a.m.segs) w.new }
+    ensures { Puts w.old (pieces_to (new_piece text.now work.now a.b a.g (first_of a.m.first)) a.m.segs) w.new }
 {
     for j in 0..a.m.segs {
         put_new_segment(w, text, work, a, j);

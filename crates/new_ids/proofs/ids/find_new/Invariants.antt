@@ -1,6 +1,7 @@
 -- `new_ids::ids::find_new` meets its contract. The loop's invariant is the state of the search.
+use Rattle.normalize_tables.specs.News.{first_of}
 use Rattle.new_ids.proofs.Finding.{Seeking}
 use Rattle.new_ids.proofs.ids.find_new.Given as goal
 
 abbrev pub invariant-loop-j : goal.invariant-loop-j
-invariant-loop-j l = Seeking l.text l.work l.a.b l.a.n l.a.g l.a.m.first l.a.m.segs l.name l.j
+invariant-loop-j l = Seeking l.text l.work l.a.b l.a.n l.a.g (first_of l.a.m.first) l.a.m.segs l.name l.j

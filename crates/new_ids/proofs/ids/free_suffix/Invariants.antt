@@ -1,10 +1,11 @@
 -- `new_ids::ids::free_suffix` meets its contract. The invariant: what was tried.
+use Rattle.normalize_tables.specs.News.{first_of}
 use Prim.Native.Nat.{◌+◌, ◌-◌}
 use Rattle.new_ids.specs.Ids.{Tried}
 use Rattle.new_ids.proofs.ids.free_suffix.Given as goal
 
 abbrev pub invariant-loop-graph : goal.invariant-loop-graph
-invariant-loop-graph l = Tried l.text l.work l.fn.a.b l.fn.a.n l.fn.a.g l.fn.a.m.first l.fn.a.m.segs l.id l.count l.suffix
+invariant-loop-graph l = Tried l.text l.work l.fn.a.b l.fn.a.n l.fn.a.g (first_of l.fn.a.m.first) l.fn.a.m.segs l.id l.count l.suffix
 
 abbrev pub decreases-loop-graph : goal.decreases-loop-graph
 decreases-loop-graph l = l.fn.a.n.segs + l.fn.a.m.segs - l.suffix

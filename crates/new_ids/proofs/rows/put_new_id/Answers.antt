@@ -2,8 +2,8 @@
 use Rattle.new_ids.proofs.NewRows.{puts_number, puts_name}
 use Rattle.new_ids.proofs.rows.put_new_id.Goals as goal
 
-pub returns-then-is_numbered : goal.returns-then-is_numbered
-returns-then-is_numbered c = search puts_number
+pub returns-in-Some : goal.returns-in-Some
+returns-in-Some c = search puts_number
 
-pub returns-else-is_numbered : goal.returns-else-is_numbered
-returns-else-is_numbered c = search puts_name
+pub returns-in-None : goal.returns-in-None
+returns-in-None c = search puts_name
