@@ -9,6 +9,7 @@ ghost use Rattle.fold.specs.Turns.{EqualStepsPut, KnownIn, KnownStep, UnitIs, St
 use new_segs::chains::made_for;
 use new_segs::segs::make_segment;
 use normalize_tables::layout::{Area, Layout, Made};
+use normalize_tables::news::News;
 use normalize_tables::rows::{NewStepWords, put_new_step};
 use scan::orientation::Orientation;
 use scan::places::Place;
@@ -56,7 +57,8 @@ pub fn target_for(text: &[u8], work: &mut [u32], a: Area, unit: SegmentNo, count
     requires { Stage text.now work.old a.b a.n a.g a.m × Room a.n a.m count × (unit.0 < a.n.segs) × (2 ≤ count) }
     ensures { TargetIs text.now work.old work.new a.b a.n a.g a.m unit.0 count result }
 {
-    if let Some(j) = made_for(text, work, a, unit, count) {
+    let news = News { text, work, a };
+    if let Some(j) = made_for(&news, unit, count) {
         return Target {
             node: a.n.segs + j,
             segs: a.m.segs,

@@ -43,6 +43,7 @@ use Rattle.normalize_tables.proofs.NewsStand.{new_rows_kept, paths_kept, source_
 use Rattle.new_ids.specs.Ids.{NodeIs}
 use Rattle.normalize_tables.specs.declared.rows.Ends.{Ends}
 use Rattle.normalize_tables.specs.NewByNumber.{ends_no, EndsPut, ends_span}
+use Rattle.normalize_tables.specs.Rewritten.{NewRows}
 use Rattle.link_ends.specs.LinkEnds.{Relinkable, GoneIs, EndsIs, EndsRow, EndsSettled, AllEnds}
 use Rattle.link_ends.proofs.Places.{place_other, place_segment}
 use Rattle.normalize_tables.proofs.Words.{word_below}
@@ -107,13 +108,12 @@ module _ {text w : List ℕ} {b : Bases} {n : Counts} {g : Layout} (l : LinkWord
         gone_marked = record { answer = λ p more x f. sym (by_mark p more x f); few = rw (sym q ∙ t) (unfold bit in bit_small (eqb mark 1)) }
 
 -- the ends, by the searches for their nodes
-pub ends_are : {text w : List ℕ} {b : Bases} {n : Counts} {g : Layout} {m : Made} {l : LinkWords} {from to : Option ℕ} {gone : Bool} → Relinkable text w b n g m
+pub ends_are : {text w : List ℕ} {b : Bases} {n : Counts} {g : Layout} {m : Made} {l : LinkWords} {from to : Option ℕ} {gone : Bool} → Source text w b n g → NewRows w n g m
     → NodeIs text w b n g (first_of m.first) m.segs l.from from → NodeIs text w b n g (first_of m.first) m.segs l.to to → GoneIs text w b n g l from gone
     → EndsIs text w b n g m l (record { from = from; to = to; gone = gone })
-ends_are s f t d =
-    let few = s.source.readable.few in
-    let rows = s.rows in
-    let room = s.source.placed.room in
+ends_are s rows f t d =
+    let few = s.readable.few in
+    let room = s.placed.room in
     record { from = f; to = t; gone = d; small = (omega (arith, node_small f), omega (arith, node_small t)); room = omega arith }
 
 -- ---- what is kept

@@ -6,6 +6,8 @@ ghost use Rattle.link_ends.specs.LinkEnds.{Relinkable, GoneIs, EndsIs, EndsSettl
 
 use new_ids::ids::find_node;
 use normalize_tables::layout::{Area, Layout};
+use normalize_tables::new_graph::NewGraph;
+use normalize_tables::news::News;
 use normalize_tables::rows::{Ends, put_ends};
 use runs::counts::is_self_link;
 use tables::entry::LinkNo;
@@ -28,19 +30,22 @@ pub fn is_gone(graph: &Graph, g: Layout, l: LinkWords, from: Option<usize>) -> b
 }
 
 // The ends of a link.
-pub fn ends_of(text: &[u8], work: &[u32], a: Area, l: LinkWords) -> Ends
-    requires { Relinkable text.now work.now a.b a.n a.g a.m × Inside text.now l.from × Inside text.now l.to }
-    ensures { EndsIs text.now work.now a.b a.n a.g a.m l result }
+#[tactic(auto, using(normalize_tables::proofs::NewsStand::nodes_named))]
+pub fn ends_of(graph: &NewGraph, l: LinkWords) -> Ends
+    requires { Inside graph.now.text.now l.from × Inside graph.now.text.now l.to }
+    ensures { EndsIs graph.now.text.now graph.now.work.now graph.now.a.b graph.now.a.n graph.now.a.g graph.now.a.m l result }
 {
-    let graph = Graph {
+    let NewGraph { text, work, a } = *graph;
+    let news = News { text, work, a };
+    let from = find_node(&news, l.from);
+    let to = find_node(&news, l.to);
+    let old = Graph {
         text,
         work,
         b: a.b,
         n: a.n,
     };
-    let from = find_node(text, work, a, l.from);
-    let to = find_node(text, work, a, l.to);
-    let gone = is_gone(&graph, a.g, l, from);
+    let gone = is_gone(&old, a.g, l, from);
     Ends { from, to, gone }
 }
 
@@ -49,13 +54,8 @@ pub fn settle_ends(text: &[u8], work: &mut [u32], a: Area, i: LinkNo) -> bool
     requires { Relinkable text.now work.old a.b a.n a.g a.m × (i.0 < a.n.links) }
     ensures { EndsSettled text.now work.old work.new a.b a.n a.g a.m i.0 result }
 {
-    let graph = Graph {
-        text,
-        work,
-        b: a.b,
-        n: a.n,
-    };
-    let e = ends_of(text, work, a, graph.link(i));
+    let graph = NewGraph { text, work, a };
+    let e = ends_of(&graph, graph.link(i));
     put_ends(work, a.g, i, e);
     e.gone
 }

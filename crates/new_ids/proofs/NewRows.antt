@@ -13,9 +13,7 @@ use Rattle.normalize_spec.specs.Folding.{usable}
 use Rattle.normalize_spec.specs.NewNames.{new_name}
 use Rattle.tables.specs.declared.tables.Bases.{Bases}
 use Rattle.tables.specs.declared.tables.Counts.{Counts}
-use Rattle.tables.specs.declared.rows.SegmentWords.{SegmentWords}
-use Rattle.scan.specs.Places.{bytes_in}
-use Rattle.tables.specs.ByNumber.{segment_no, SegmentIs}
+use Rattle.tables.specs.ByNumber.{segment_no}
 use Rattle.writers.specs.declared.writer.Writer.{Writer}
 use Rattle.writers.specs.Writers.{Puts}
 use Rattle.writers.proofs.Writing.{as_piece}
@@ -83,7 +81,3 @@ module _ (text work : List ℕ) (b : Bases) (g : Layout) (first j : ℕ) where
 pub ruleset written = (puts_number, puts_name)
 
 pub ruleset compared = (same_number, same_name)
-
--- the ID of a segment of the text, by its row
-pub id_is : {text work : List ℕ} {b : Bases} {i : ℕ} {s : SegmentWords} → SegmentIs text work b i s → bytes_in text s.id ≡ (segment_no text work b i).id
-id_is u = sym (ap (λ x. x.id) u.segment)

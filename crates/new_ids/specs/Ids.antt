@@ -9,19 +9,10 @@ use Rattle.tables.specs.declared.tables.Counts.{Counts}
 use Rattle.scan.specs.declared.places.Place.{Place}
 use Rattle.scan.specs.Places.{bytes_in}
 use Rattle.tables.specs.ByNumber.{segment_no}
-use Rattle.tables.specs.Tables.{Readable}
 use Rattle.normalize_tables.specs.declared.layout.Layout.{Layout}
 use Rattle.normalize_tables.specs.News.{segment_words, new_at, names_at, place_of}
-use Rattle.normalize_tables.specs.NewByNumber.{SegmentRoom, SegmentRows}
 
 -- ---- nodes
-
--- The segments of the text and q new ones may be named.
-pub record Named (text work : List ℕ) (b : Bases) (n : Counts) (g : Layout) (q : ℕ) : Type 0 where
-  pub readable : Readable text work b n
-  pub room : SegmentRoom work g q
-  pub few : q ≤ n.steps
-  pub rows : SegmentRows work n g q
 
 -- What a search for a name finds: the number of the first node so named, which is one of those that there are.
 pub record NodeIs (text work : List ℕ) (b : Bases) (n : Counts) (g : Layout) (first q : ℕ) (name : Place) (r : Option ℕ) : Type 0 where

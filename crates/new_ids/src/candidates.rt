@@ -5,40 +5,39 @@ ghost use Rattle.normalize_spec.specs.NewNames.{new_name};
 ghost use Rattle.tables.specs.Segments.{ids_of};
 ghost use Rattle.tables.specs.ByNumber.{segments_of};
 ghost use Rattle.normalize_tables.specs.News.{first_of, Suffixed};
-ghost use Rattle.new_ids.specs.Ids.{Named, is_kin, Tried};
+ghost use Rattle.new_ids.specs.Ids.{is_kin, Tried};
 
-use crate::rows::{new_number, segment_id};
+use crate::rows::new_number;
 use new_names::names::is_new_name;
 use new_names::sanitized::same_sanitized;
-use normalize_tables::layout::Area;
-use normalize_tables::rows::new_segment_at;
+use normalize_tables::news::News;
 use tables::entry::SegmentNo;
 use tables::graph::Graph;
 
 // Has new segment j a name of the same sanitized unit and the same run length?
 #[tactic(auto, using(crate::proofs::Kin::kinship))]
-pub fn is_kin(text: &[u8], work: &[u32], a: Area, j: usize, unit: &[u8], count: usize) -> bool
-    requires { Named text.now work.now a.b a.n a.g a.m.segs × (j < a.m.segs) }
-    ensures { result ≡ is_kin text.now a.b a.g (first_of a.m.first) work.now unit.now count j }
+pub fn is_kin(news: &News, j: usize, unit: &[u8], count: usize) -> bool
+    requires { j < news.now.a.m.segs }
+    ensures { result ≡ is_kin news.now.text.now news.now.a.b news.now.a.g (first_of news.now.a.m.first) news.now.work.now unit.now count j }
 {
-    match new_number(a.m.first, j) {
+    match new_number(news.a.m.first, j) {
         Some(_) => false,
         None => {
-            let row = new_segment_at(text, work, a, j);
-            row.count == count && same_sanitized(segment_id(text, work, a, row.unit), unit)
+            let row = news.new_segment(j);
+            row.count == count && same_sanitized(news.segment_id(row.unit), unit)
         }
     }
 }
 
 // The suffix behind that of the last such segment: all before it are taken, and no new segment has it or one behind it.
 #[tactic(auto, using(crate::proofs::Kin::backwards_hit))]
-pub fn next_suffix(text: &[u8], work: &[u32], a: Area, unit: &[u8], count: usize) -> usize
-    requires { Named text.now work.now a.b a.n a.g a.m.segs × Suffixed text.now work.now a.b a.n a.g (first_of a.m.first) a.m.segs }
-    ensures { Tried text.now work.now a.b a.n a.g (first_of a.m.first) a.m.segs unit.now count result }
+pub fn next_suffix(news: &News, unit: &[u8], count: usize) -> usize
+    requires { Suffixed news.now.text.now news.now.work.now news.now.a.b news.now.a.n news.now.a.g (first_of news.now.a.m.first) news.now.a.m.segs }
+    ensures { Tried news.now.text.now news.now.work.now news.now.a.b news.now.a.n news.now.a.g (first_of news.now.a.m.first) news.now.a.m.segs unit.now count result }
 {
-    for j in (0..a.m.segs).rev() {
-        if is_kin(text, work, a, j, unit, count) {
-            return new_segment_at(text, work, a, j).suffix + 1;
+    for j in (0..news.a.m.segs).rev() {
+        if is_kin(news, j, unit, count) {
+            return news.new_segment(j).suffix + 1;
         }
     }
     0

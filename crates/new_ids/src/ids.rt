@@ -7,13 +7,14 @@ ghost use Rattle.gfa_spec.specs.Records.{segment_number};
 ghost use Rattle.scan.specs.Places.{Inside, bytes_in};
 ghost use Rattle.tables.specs.ByNumber.{segments_of};
 ghost use Rattle.normalize_spec.specs.Folding.{none_made};
-ghost use Rattle.normalize_tables.specs.News.{first_of, names_at, Suffixed};
+ghost use Rattle.normalize_tables.specs.News.{first_of, Suffixed};
+ghost use Rattle.normalize_tables.specs.NodeIds.{news_ids};
 ghost use Rattle.writers.specs.Writers.{Puts};
-ghost use Rattle.new_ids.specs.Ids.{Named, NodeIs, SuffixIs};
+ghost use Rattle.new_ids.specs.Ids.{NodeIs, SuffixIs};
 
 use crate::candidates::{is_taken, next_suffix};
-use crate::rows::{is_new_id, put_new_id, segment_id};
-use normalize_tables::layout::Area;
+use crate::rows::{is_new_id, put_new_id};
+use normalize_tables::news::News;
 use scan::numbers::number_of;
 use scan::places::Place;
 use tables::entry::SegmentNo;
@@ -35,27 +36,26 @@ pub fn first_number(graph: &Graph) -> Option<u64>
 }
 
 // The ID of node k, written.
-pub fn put_id(w: &mut Writer, text: &[u8], work: &[u32], a: Area, k: usize)
-    requires { Named text.now work.now a.b a.n a.g a.m.segs × (k < a.n.segs + a.m.segs) }
-    ensures { Puts w.old (nth k (names_at text.now work.now a.b a.n a.g (first_of a.m.first) a.m.segs) []) w.new }
+pub fn put_id(w: &mut Writer, news: &News, k: usize)
+    requires { k < news.now.a.n.segs + news.now.a.m.segs }
+    ensures { Puts w.old (nth k (news_ids news.now) []) w.new }
 {
-    if a.n.segs <= k {
-        put_new_id(w, text, work, a, k - a.n.segs);
+    if news.a.n.segs <= k {
+        put_new_id(w, news, k - news.a.n.segs);
     } else {
-        w.put(segment_id(text, work, a, SegmentNo(k as u32)));
+        w.put(news.segment_id(SegmentNo(k as u32)));
     }
 }
 
 // The number of the new segment that has the name, which no segment of the text has.
 #[tactic(auto, using(crate::proofs::Finding::seeking))]
-fn find_new(text: &[u8], work: &[u32], a: Area, name: Place) -> Option<usize>
-    requires named { Named text.now work.now a.b a.n a.g a.m.segs × Inside text.now name }
-    requires name_value { segment_number (segments_of text.now work.now a.b a.n) (bytes_in text.now name) ≡ None }
-    ensures { NodeIs text.now work.now a.b a.n a.g (first_of a.m.first) a.m.segs name result }
+fn find_new(news: &News, name: Place) -> Option<usize>
+    requires { Inside news.now.text.now name × (segment_number (segments_of news.now.text.now news.now.work.now news.now.a.b news.now.a.n) (bytes_in news.now.text.now name) ≡ None) }
+    ensures { NodeIs news.now.text.now news.now.work.now news.now.a.b news.now.a.n news.now.a.g (first_of news.now.a.m.first) news.now.a.m.segs name result }
 {
-    for j in 0..a.m.segs {
-        if is_new_id(text, work, a, j, name.of(text)) {
-            return Some(a.n.segs + j);
+    for j in 0..news.a.m.segs {
+        if is_new_id(news, j, name.of(news.text)) {
+            return Some(news.a.n.segs + j);
         }
     }
     None
@@ -63,36 +63,36 @@ fn find_new(text: &[u8], work: &[u32], a: Area, name: Place) -> Option<usize>
 
 // The number of the node that has the name: a segment of the text, or a new one.
 #[tactic(auto, using(crate::proofs::Finding::seeking_segment, tables::proofs::Named::unnamed_number))]
-pub fn find_node(text: &[u8], work: &[u32], a: Area, name: Place) -> Option<usize>
-    requires { Named text.now work.now a.b a.n a.g a.m.segs × Inside text.now name }
-    ensures { NodeIs text.now work.now a.b a.n a.g (first_of a.m.first) a.m.segs name result }
+pub fn find_node(news: &News, name: Place) -> Option<usize>
+    requires { Inside news.now.text.now name }
+    ensures { NodeIs news.now.text.now news.now.work.now news.now.a.b news.now.a.n news.now.a.g (first_of news.now.a.m.first) news.now.a.m.segs name result }
 {
     let graph = Graph {
-        text,
-        work,
-        b: a.b,
-        n: a.n,
+        text: news.text,
+        work: news.work,
+        b: news.a.b,
+        n: news.a.n,
     };
     match graph.named(name) {
         Some(k) => Some(k.0 as usize),
-        None => find_new(text, work, a, name),
+        None => find_new(news, name),
     }
 }
 
 // The first suffix with which the name of a unit and a run length is free.
-pub fn free_suffix(text: &[u8], work: &[u32], a: Area, unit: SegmentNo, count: usize) -> usize
-    requires named { Named text.now work.now a.b a.n a.g a.m.segs × Suffixed text.now work.now a.b a.n a.g (first_of a.m.first) a.m.segs }
-    requires unit_lt_segs { (unit.0 < a.n.segs) × (count ≤ a.n.steps) × (largest64 ≤ (first_of a.m.first) + a.m.segs) }
-    ensures { SuffixIs text.now work.now a.b a.n a.g (first_of a.m.first) a.m.segs unit.0 count result }
+pub fn free_suffix(news: &News, unit: SegmentNo, count: usize) -> usize
+    requires suffixed { Suffixed news.now.text.now news.now.work.now news.now.a.b news.now.a.n news.now.a.g (first_of news.now.a.m.first) news.now.a.m.segs }
+    requires unit_lt_segs { (unit.0 < news.now.a.n.segs) × (count ≤ news.now.a.n.steps) × (largest64 ≤ first_of news.now.a.m.first + news.now.a.m.segs) }
+    ensures { SuffixIs news.now.text.now news.now.work.now news.now.a.b news.now.a.n news.now.a.g (first_of news.now.a.m.first) news.now.a.m.segs unit.0 count result }
 {
     let graph = Graph {
-        text,
-        work,
-        b: a.b,
-        n: a.n,
+        text: news.text,
+        work: news.work,
+        b: news.a.b,
+        n: news.a.n,
     };
-    let id = segment_id(text, work, a, unit);
-    let mut suffix = next_suffix(text, work, a, id, count);
+    let id = news.segment_id(unit);
+    let mut suffix = next_suffix(news, id, count);
     // Suffix after suffix, up to the first that is free.
     while is_taken(&graph, id, count, suffix) {
         suffix += 1;

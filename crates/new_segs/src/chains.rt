@@ -4,19 +4,20 @@ ghost use Rattle.new_segs.specs.Chains.{MadeIs, LastPut};
 ghost use Rattle.new_segs.specs.Makes.{Making};
 ghost use Rattle.normalize_tables.specs.News.{first_of};
 
-use normalize_tables::layout::{Area, Layout};
-use normalize_tables::rows::{new_segment_at, number_at};
+use normalize_tables::layout::Layout;
+use normalize_tables::news::News;
+use normalize_tables::rows::number_at;
 use tables::entry::SegmentNo;
 
 // The last new segment that was made of the unit and the run length, if there is one.
-pub fn made_for(text: &[u8], work: &[u32], a: Area, unit: SegmentNo, count: usize) -> Option<usize>
-    requires { Making text.now work.now a.b a.n a.g (first_of a.m.first) a.m.segs × (unit.0 < a.n.segs) }
-    ensures { MadeIs work.now a.g a.m.segs unit.0 count result }
+pub fn made_for(news: &News, unit: SegmentNo, count: usize) -> Option<usize>
+    requires { Making news.now.text.now news.now.work.now news.now.a.b news.now.a.n news.now.a.g (first_of news.now.a.m.first) news.now.a.m.segs × (unit.0 < news.now.a.n.segs) }
+    ensures { MadeIs news.now.work.now news.now.a.g news.now.a.m.segs unit.0 count result }
 {
-    let mut last = number_at(work, a.g.last + unit.0 as usize);
+    let mut last = number_at(news.work, news.a.g.last + unit.0 as usize);
     // Along the chain: each new segment's row names the one before it on its unit.
     while let Some(j) = last {
-        let row = new_segment_at(text, work, a, j);
+        let row = news.new_segment(j);
         if row.count == count {
             return Some(j);
         }

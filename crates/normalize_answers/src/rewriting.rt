@@ -10,6 +10,7 @@ use crate::written::Written;
 use fold::pairs::new_pairs;
 use fold::paths::transform;
 use normalize_tables::layout::{Area, Layout, Made};
+use normalize_tables::new_graph::NewGraph;
 use refusals::reason::Reason;
 use refusals::refusal::Refusal;
 use relink::settle::{Links, settle_links};
@@ -66,15 +67,16 @@ pub fn write_text(
     requires { Writable text.now work.now a.b a.n a.g a.m extra }
     ensures { WriteIs text.now work.now a.b a.n a.g a.m extra stats out.old out.new result }
 {
+    let graph = NewGraph { text, work, a };
     let room = out.len();
     let mut nothing = [0u8; 0];
     let mut w = Writer::new(&mut nothing, room + 1);
-    put_rewritten(&mut w, text, work, a, extra);
+    put_rewritten(&mut w, &graph, extra);
     let need = w.at;
     if room < need {
         return Err(Refusal::of(Reason::ShortOutput));
     }
-    put_rewritten(&mut Writer::new(out, room + 1), text, work, a, extra);
+    put_rewritten(&mut Writer::new(out, room + 1), &graph, extra);
     Ok(Written {
         length: need,
         stats,

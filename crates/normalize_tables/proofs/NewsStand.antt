@@ -13,7 +13,7 @@ use Rattle.normalize_tables.specs.declared.layout.Layout.{Layout}
 use Rattle.normalize_tables.specs.declared.layout.Made.{Made}
 use Rattle.normalize_tables.specs.Layout.{Placed, Source}
 use Rattle.normalize_tables.specs.News.{first_of, news_at, names_at, new_step_at, new_steps_at}
-use Rattle.normalize_tables.specs.NewByNumber.{new_paths_to, SegmentRows, SegmentsKept, StepsKept, PathsKept}
+use Rattle.normalize_tables.specs.NewByNumber.{new_paths_to, Named, SegmentRows, SegmentsKept, StepsKept, PathsKept}
 use Rattle.normalize_tables.specs.Rewritten.{NewRows}
 use Rattle.normalize_tables.proofs.Sources.{source_stands}
 use Rattle.normalize_tables.proofs.NewByNumber.{segments_words, steps_words, paths_words}
@@ -74,3 +74,10 @@ module _ {text w w' : List ℕ} {b : Bases} {n : Counts} {g : Layout} (s : Sourc
   module _ {m : Made} (r : NewRows w n g m) where
     pub names_kept : names_at text w' b n g (first_of m.first) m.segs ≡ names_at text w b n g (first_of m.first) m.segs
     names_kept = names-stay s front_kept (first_of m.first) r.segs (segments_stay s.placed k r)
+
+-- ---- a graph whose paths are transformed
+
+module _ {text work : List ℕ} {b : Bases} {n : Counts} {g : Layout} {m : Made} where
+  -- its nodes may be named
+  pub nodes_named : Source text work b n g → NewRows work n g m → Named text work b n g m.segs
+  nodes_named s r = let p = s.placed in record { readable = s.readable; room = omega (arith, r.half); few = omega (arith, r.few); rows = r.segs }

@@ -3,7 +3,7 @@ use Prim.Native.Nat.{ℕ, zero, suc, ◌+◌, ◌*◌, ◌<◌}
 use native.Mathlib.Omega.{arith}
 use mathlib.Core.Bool.{true, false, not}
 use mathlib.Core.List.{List, [], ◌∷◌, ◌++◌, map-append, append_assoc}
-use mathlib.Core.Path.{◌≡◌, ◌∙◌}
+use mathlib.Core.Path.{◌≡◌, sym, ap, ◌∙◌}
 use lib.Dec.{eqb, eqb-zero-suc, eqb-suc-zero, eqb-suc-suc}
 use lib.ListN.{length, length-append, length-map}
 use borrow.Author.Tests.{not-true}
@@ -13,7 +13,10 @@ use Rattle.normalize_spec.specs.Folding.{taken}
 use Rattle.work.proofs.Rows.{rows_length, rows_snoc}
 use Rattle.tables.specs.declared.tables.Bases.{Bases}
 use Rattle.tables.specs.declared.tables.Counts.{Counts}
+use Rattle.tables.specs.declared.rows.SegmentWords.{SegmentWords}
+use Rattle.tables.specs.ByNumber.{segment_no, SegmentIs}
 use Rattle.tables.proofs.ByNumber.{segments_length}
+use Rattle.scan.specs.Places.{bytes_in}
 use Rattle.normalize_tables.specs.declared.layout.Layout.{Layout}
 use Rattle.normalize_tables.specs.News.{new_at, news_at, names_at}
 
@@ -53,3 +56,7 @@ module _ (text w : List ℕ) (b : Bases) (n : Counts) (g : Layout) (first : ℕ)
   pub names_more : (q : ℕ) → names_at text w b n g first (suc q) ≡ names_at text w b n g first q ++ ((new_at text b g first w q).id ∷ [])
   unfolding names_at taken
   names_more q = rw (news_more q, map-append, append_assoc)
+
+-- the ID of a segment of the text, by its row
+pub segment_id : {text work : List ℕ} {b : Bases} {i : ℕ} {s : SegmentWords} → SegmentIs text work b i s → bytes_in text s.id ≡ (segment_no text work b i).id
+segment_id u = sym (ap (λ x. x.id) u.segment)

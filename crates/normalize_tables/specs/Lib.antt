@@ -4,3 +4,4 @@ pub mod Marks
 pub mod News
 pub mod NewByNumber
 pub mod Rewritten
+pub mod NodeIds

@@ -9,6 +9,7 @@ use Rattle.std.proofs.lemmas.List.Edits.{sets}
 use Rattle.work.specs.Rows.{EachRow, Range, span, Only, word_of, number_in}
 use Rattle.tables.specs.declared.tables.Bases.{Bases}
 use Rattle.tables.specs.declared.tables.Counts.{Counts}
+use Rattle.tables.specs.Tables.{Readable}
 use Rattle.normalize_tables.specs.declared.layout.Layout.{Layout}
 use Rattle.normalize_tables.specs.declared.layout.Made.{Made}
 use Rattle.normalize_tables.specs.declared.rows.NewSegmentWords.{NewSegmentWords}
@@ -95,6 +96,13 @@ NewStepThere work n g m k = StepRoom work g m.steps × StepRows work n g m × (k
 
 abbrev pub NewPathThere : List ℕ → Counts → Layout → Made → ℕ → Type 0
 NewPathThere work n g m p = PathRoom work g n.paths × PathRows work n g m × (p < n.paths)
+
+-- The segments of the text and q new ones may be named.
+pub record Named (text work : List ℕ) (b : Bases) (n : Counts) (g : Layout) (q : ℕ) : Type 0 where
+  pub readable : Readable text work b n
+  pub room : SegmentRoom work g q
+  pub few : q ≤ n.steps
+  pub rows : SegmentRows work n g q
 
 -- ---- rows
 

@@ -1,5 +1,8 @@
-// The normalizer's tables: where they are in the work area, how many rows they have, and their rows by number.
+// The normalizer's tables: where they are in the work area, their rows by number, the new segments made so far (`News`), and a graph whose
+// paths are transformed (`NewGraph`).
 #![tactic(auto)]
 
 pub mod layout;
+pub mod new_graph;
+pub mod news;
 pub mod rows;

@@ -13,19 +13,10 @@ use Rattle.normalize_tables.specs.declared.layout.Layout.{Layout}
 use Rattle.normalize_tables.specs.declared.layout.Made.{Made}
 use Rattle.normalize_tables.specs.News.{first_of, names_at}
 use Rattle.normalize_tables.specs.NewByNumber.{new_step_no, new_path_no}
-use Rattle.normalize_tables.specs.Layout.{Source}
-use Rattle.normalize_tables.specs.Rewritten.{NewRows}
-use Rattle.new_ids.specs.Ids.{Named}
 
 -- the IDs of the nodes
 abbrev pub nodes : List ℕ → List ℕ → Bases → Counts → Layout → Made → List (List ℕ)
 nodes text work b n g m = names_at text work b n g (first_of m.first) m.segs
-
--- What is asked before the text is written: the tables of a text, the new segments, steps and paths, and that the nodes can be named.
-pub record Rewritable (text work : List ℕ) (b : Bases) (n : Counts) (g : Layout) (m : Made) : Type 0 where
-  pub source : Source text work b n g
-  pub rows : NewRows work n g m
-  pub named : Named text work b n g m.segs
 
 -- step k of a path: in a P line behind a comma (44), but for the first
 unfoldable pub token_of : Kind → ℕ → NewStep → List ℕ

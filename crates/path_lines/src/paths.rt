@@ -6,14 +6,15 @@ ghost use Rattle.normalize_spec.specs.Writing.{step_field};
 ghost use Rattle.scan.specs.Places.{Inside};
 ghost use Rattle.tables.specs.Paths.{kind_in, column_of};
 ghost use Rattle.normalize_tables.specs.NewByNumber.{new_path_no, step_in};
-ghost use Rattle.new_ids.specs.Ids.{Named};
+ghost use Rattle.normalize_tables.specs.NodeIds.{graph_ids, news_ids};
 ghost use Rattle.writers.specs.Writers.{Puts, pieces_to};
-ghost use Rattle.path_lines.specs.PathPieces.{nodes, token_of, token_piece, fields_in, overlaps_of, path_piece, Rewritable};
+ghost use Rattle.path_lines.specs.PathPieces.{token_of, token_piece, fields_in, overlaps_of, path_piece};
 
 use crate::marks::mark_of;
 use new_ids::ids::put_id;
-use normalize_tables::layout::Area;
-use normalize_tables::rows::{NewStepWords, new_path_at, new_step_at};
+use normalize_tables::new_graph::NewGraph;
+use normalize_tables::news::News;
+use normalize_tables::rows::NewStepWords;
 use scan::places::{Place, field_at};
 use tables::entry::PathNo;
 use tables::graph::Graph;
@@ -32,75 +33,62 @@ fn put_comma(w: &mut Writer, k: usize)
 }
 
 // Step k of a P line.
-fn put_p_token(w: &mut Writer, text: &[u8], work: &[u32], a: Area, k: usize, s: NewStepWords)
-    requires { Named text.now work.now a.b a.n a.g a.m.segs × (s.node < a.n.segs + a.m.segs) }
-    ensures { Puts w.old (token_of P k (step_in (nodes text.now work.now a.b a.n a.g a.m) s)) w.new }
+fn put_p_token(w: &mut Writer, news: &News, k: usize, s: NewStepWords)
+    requires { s.node < news.now.a.n.segs + news.now.a.m.segs }
+    ensures { Puts w.old (token_of P k (step_in (news_ids news.now) s)) w.new }
 {
     put_comma(w, k);
-    put_id(w, text, work, a, s.node);
+    put_id(w, news, s.node);
     w.put_byte(s.mark.sign());
 }
 
 // Step k of a W line.
-fn put_w_token(w: &mut Writer, text: &[u8], work: &[u32], a: Area, k: usize, s: NewStepWords)
-    requires { Named text.now work.now a.b a.n a.g a.m.segs × (s.node < a.n.segs + a.m.segs) }
-    ensures { Puts w.old (token_of W k (step_in (nodes text.now work.now a.b a.n a.g a.m) s)) w.new }
+fn put_w_token(w: &mut Writer, news: &News, k: usize, s: NewStepWords)
+    requires { s.node < news.now.a.n.segs + news.now.a.m.segs }
+    ensures { Puts w.old (token_of W k (step_in (news_ids news.now) s)) w.new }
 {
     w.put_byte(mark_of(s.mark));
-    put_id(w, text, work, a, s.node);
+    put_id(w, news, s.node);
 }
 
 // Step k of those from new step `first` on, in a line of the kind.
-pub fn put_token(
-    w: &mut Writer,
-    text: &[u8],
-    work: &[u32],
-    a: Area,
-    kind: PathKind,
-    first: usize,
-    k: usize,
-)
-    requires { Rewritable text.now work.now a.b a.n a.g a.m × (first + k < a.m.steps) }
+#[tactic(auto, using(normalize_tables::proofs::NewsStand::nodes_named))]
+pub fn put_token(w: &mut Writer, graph: &NewGraph, kind: PathKind, first: usize, k: usize)
+    requires { first + k < graph.now.a.m.steps }
     ensures { Puts w.old
-        (token_piece (kind_in kind) (nodes text.now work.now a.b a.n a.g a.m) work.now a.g first k) w.new }
+        (token_piece (kind_in kind) (graph_ids graph.now) graph.now.work.now graph.now.a.g first k) w.new }
 {
-    let s = new_step_at(work, a, first + k);
+    let s = graph.new_step(first + k);
+    let NewGraph { text, work, a } = *graph;
+    let news = News { text, work, a };
     match kind {
-        PathKind::P => put_p_token(w, text, work, a, k, s),
-        PathKind::W => put_w_token(w, text, work, a, k, s),
+        PathKind::P => put_p_token(w, &news, k, s),
+        PathKind::W => put_w_token(w, &news, k, s),
     }
 }
 
 // The new steps from `first` up to `end`, as a line of the kind has them.
-pub fn put_tokens(
-    w: &mut Writer,
-    text: &[u8],
-    work: &[u32],
-    a: Area,
-    kind: PathKind,
-    first: usize,
-    end: usize,
-)
-    requires { Rewritable text.now work.now a.b a.n a.g a.m × (first ≤ end) × (end ≤ a.m.steps) }
+pub fn put_tokens(w: &mut Writer, graph: &NewGraph, kind: PathKind, first: usize, end: usize)
+    requires { (first ≤ end) × (end ≤ graph.now.a.m.steps) }
     ensures { Puts w.old
-        (pieces_to (token_piece (kind_in kind) (nodes text.now work.now a.b a.n a.g a.m) work.now a.g first) (end - first)) w.new }
+        (pieces_to (token_piece (kind_in kind) (graph_ids graph.now) graph.now.work.now graph.now.a.g first) (end - first)) w.new }
 {
     for k in 0..end - first {
-        put_token(w, text, work, a, kind, first, k);
+        put_token(w, graph, kind, first, k);
     }
 }
 
 // The field of the steps of path `p`.
-pub fn put_steps(w: &mut Writer, text: &[u8], work: &[u32], a: Area, kind: PathKind, p: PathNo)
-    requires { Rewritable text.now work.now a.b a.n a.g a.m × (p.0 < a.n.paths) }
+pub fn put_steps(w: &mut Writer, graph: &NewGraph, kind: PathKind, p: PathNo)
+    requires { p.0 < graph.now.a.n.paths }
     ensures { Puts w.old
-        (step_field (kind_in kind) (new_path_no (nodes text.now work.now a.b a.n a.g a.m) work.now a.g p.0)) w.new }
+        (step_field (kind_in kind) (new_path_no (graph_ids graph.now) graph.now.work.now graph.now.a.g p.0)) w.new }
 {
-    let path = new_path_at(work, a, p);
+    let path = graph.new_path(p);
     if path.first == path.end {
         w.put_byte(b'*');
     } else {
-        put_tokens(w, text, work, a, kind, path.first, path.end);
+        put_tokens(w, graph, kind, path.first, path.end);
     }
 }
 
@@ -129,33 +117,33 @@ pub fn put_rest(w: &mut Writer, text: &[u8], line: Place, kind: PathKind, end: u
 }
 
 // Path `p` with its new steps: its line up to the field of the steps, that field, and what stands behind it.
-pub fn put_path(w: &mut Writer, text: &[u8], work: &[u32], a: Area, p: PathNo)
-    requires { Rewritable text.now work.now a.b a.n a.g a.m × (p.0 < a.n.paths) }
-    ensures { Puts w.old (path_piece (nodes text.now work.now a.b a.n a.g a.m) text.now work.now a.b a.g p.0) w.new }
+pub fn put_path(w: &mut Writer, graph: &NewGraph, p: PathNo)
+    requires { p.0 < graph.now.a.n.paths }
+    ensures { Puts w.old (path_piece (graph_ids graph.now) graph.now.text.now graph.now.work.now graph.now.a.b graph.now.a.g p.0) w.new }
 {
-    let graph = Graph {
+    let NewGraph { text, work, a } = *graph;
+    let old = Graph {
         text,
         work,
         b: a.b,
         n: a.n,
     };
-    let path = graph.path(p);
+    let path = old.path(p);
     let line = path.line;
     let Some(steps) = field_at(text, line, path.kind.column()) else {
         return put_line(w, line.of(text));
     };
     w.put(&text[line.start..steps.start]);
-    put_steps(w, text, work, a, path.kind, p);
+    put_steps(w, graph, path.kind, p);
     put_rest(w, text, line, path.kind, steps.start + steps.size);
 }
 
 // The lines of the paths.
-pub fn put_paths(w: &mut Writer, text: &[u8], work: &[u32], a: Area)
-    requires { Rewritable text.now work.now a.b a.n a.g a.m }
+pub fn put_paths(w: &mut Writer, graph: &NewGraph)
     ensures { Puts w.old
-        (pieces_to (path_piece (nodes text.now work.now a.b a.n a.g a.m) text.now work.now a.b a.g) a.n.paths) w.new }
+        (pieces_to (path_piece (graph_ids graph.now) graph.now.text.now graph.now.work.now graph.now.a.b graph.now.a.g) graph.now.a.n.paths) w.new }
 {
-    for p in 0..a.n.paths {
-        put_path(w, text, work, a, PathNo(p as u32));
+    for p in 0..graph.a.n.paths {
+        put_path(w, graph, PathNo(p as u32));
     }
 }

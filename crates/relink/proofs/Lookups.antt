@@ -25,6 +25,8 @@ use Rattle.tables.specs.declared.tables.Counts.{Counts}
 use Rattle.tables.specs.declared.rows.LinkWords.{LinkWords}
 use Rattle.tables.specs.ByNumber.{link_no, LinkIs, links_from}
 use Rattle.tables.proofs.ByNumber.{links_all, links_next, links_none}
+use Rattle.normalize_tables.specs.Rewritten.{NewRows}
+use Rattle.normalize_tables.specs.Layout.{Source}
 use Rattle.normalize_tables.specs.declared.layout.Layout.{Layout}
 use Rattle.normalize_tables.specs.declared.layout.Made.{Made}
 use Rattle.normalize_tables.specs.declared.rows.NewStepWords.{NewStepWords}
@@ -35,7 +37,6 @@ use Rattle.normalize_tables.proofs.NewByNumber.{eq_steps}
 use Rattle.normalize_tables.specs.declared.rows.Ends.{Ends}
 use Rattle.relink.specs.declared.lookup.Pair.{Pair}
 use Rattle.relink.specs.Relinking.{AddedRows, Ended, pair_no, key_in, PairIs, PairThere, kept_keys, pair_is, nodes_are, marks_are, LinkMatch, KeptIs, AddedMatch, LinkFound}
-use Rattle.link_ends.specs.LinkEnds.{Relinkable}
 use Rattle.link_ends.proofs.Places.{place_says}
 
 -- ---- words and steps
@@ -92,15 +93,11 @@ regroup true false true t = refl
 regroup true false false t = refl
 regroup false y z t = refl
 
-module _ {text work : List ℕ} {b : Bases} {n : Counts} {g : Layout} {m : Made} (p : Pair) {i : ℕ}
-    (s : Relinkable text work b n g m × PairThere n m p × (i < n.links)) {e : Ends} (f : e ≡ ends_no work g i) where
-  -- the link
-  abbrev here : Link
-  here = link_no text work b i
-
+module _ (text : List ℕ) {work : List ℕ} (b : Bases) {n : Counts} {g : Layout} {m : Made} (p : Pair) {i : ℕ}
+    (s : PairThere n m p × (i < n.links)) {e : Ends} (f : e ≡ ends_no work g i) where
   -- its row says whether it is removed
-  match_gone : (names : List (List ℕ)) (fs : List Segment) → Ended text names fs work b n g m → e.gone ≡ is_removed fs here
-  match_gone names fs d = rw (f, (d.ends i s.2).gone)
+  match_gone : (names : List (List ℕ)) (fs : List Segment) → Ended text names fs work b n g m → e.gone ≡ is_removed fs (link_no text work b i)
+  match_gone names fs d = rw (f, (d.ends i s.1).gone)
 
   pub match_removed : e.gone ≡ true → LinkMatch text work b n g m p i false
   match_removed h = record { answer = λ names fs d. rw (← match_gone names fs d, h) }
@@ -108,13 +105,13 @@ module _ {text work : List ℕ} {b : Bases} {n : Counts} {g : Layout} {m : Made}
   module _ (h : e.gone ≡ false) where
     -- nodes and orientations say whether it has the parts
     match_all : (names : List (List ℕ)) (fs : List Segment) → Ended text names fs work b n g m
-        → (nodes_are p e && (eqb (sign_of p.first.mark) here.from_orientation && eqb (sign_of p.second.mark) here.to_orientation)) ≡ (not (is_removed fs here) && same_key (key_in names p) (key_of here))
+        → (nodes_are p e && (eqb (sign_of p.first.mark) (link_no text work b i).from_orientation && eqb (sign_of p.second.mark) (link_no text work b i).to_orientation)) ≡ (not (is_removed fs (link_no text work b i)) && same_key (key_in names p) (key_of (link_no text work b i)))
     unfolding same_key key_of
     match_all names fs d =
-        let row = d.ends i s.2 in
-        let from = end_says names d.apart p.first e.from here.from_orientation here.from (omega (arith, s.1, d.all)) (rw f row.from) in
-        let to = end_says names d.apart p.second e.to here.to_orientation here.to (omega (arith, s.1, d.all)) (rw f row.to) in
-        rw (← match_gone names fs d, h, ← from, ← to) (regroup (option_eq eqb e.from (Some p.first.node)) (eqb (sign_of p.first.mark) here.from_orientation) _ _)
+        let row = d.ends i s.1 in
+        let from = end_says names d.apart p.first e.from (link_no text work b i).from_orientation (link_no text work b i).from (omega (arith, s.0, d.all)) (rw f row.from) in
+        let to = end_says names d.apart p.second e.to (link_no text work b i).to_orientation (link_no text work b i).to (omega (arith, s.0, d.all)) (rw f row.to) in
+        rw (← match_gone names fs d, h, ← from, ← to) (regroup (option_eq eqb e.from (Some p.first.node)) (eqb (sign_of p.first.mark) (link_no text work b i).from_orientation) _ _)
 
     module _ {r : Bool} (q : r ≡ nodes_are p e) where
       pub match_nodes : not r ≡ true → LinkMatch text work b n g m p i false
@@ -134,15 +131,14 @@ kept_cons t q l ls = by_test (t l) (λ e. rw e) (λ e. rw e)
 
 -- The state at link i: no kept link before it has the parts of the pair.
 pub record Seeking (text work : List ℕ) (b : Bases) (n : Counts) (g : Layout) (m : Made) (p : Pair) (i : ℕ) : Type 0 where
-  pub relinkable : Relinkable text work b n g m
   pub there : PairThere n m p
   pub high : i ≤ n.links
   pub left : (names : List (List ℕ)) (fs : List Segment) → Ended text names fs work b n g m
       → any (same_key (key_in names p)) (kept_keys text fs work b n.links) ≡ any (same_key (key_in names p)) (map key_of (keep (λ l. not (is_removed fs l)) (links_from text work b n i)))
 
 module _ {text work : List ℕ} {b : Bases} {n : Counts} {g : Layout} {m : Made} {p : Pair} where
-  pub seeking_start : Relinkable text work b n g m × PairThere n m p → Seeking text work b n g m p 0
-  seeking_start h = record { relinkable = h.0; there = h.1; high = omega arith; left = λ names fs e. rw (← links_all text work b n) }
+  pub seeking_start : PairThere n m p → Seeking text work b n g m p 0
+  seeking_start h = record { there = h; high = omega arith; left = λ names fs e. rw (← links_all text work b n) }
 
   module _ {i : ℕ} (s : Seeking text work b n g m p i) where
     module _ {r : Bool} (h : i < n.links) (q : LinkMatch text work b n g m p i r) where
@@ -152,7 +148,7 @@ module _ {text work : List ℕ} {b : Bases} {n : Counts} {g : Layout} {m : Made}
       first_link names fs e = s.left names fs e ∙ rw (links_next text work b n i h, kept_cons, ← q.answer names fs e)
 
       pub seeking_more : r ≡ false → Seeking text work b n g m p (i + 1)
-      seeking_more f = record { relinkable = s.relinkable; there = s.there; high = omega arith; left = λ names fs e. first_link names fs e ∙ rw f }
+      seeking_more f = record { there = s.there; high = omega arith; left = λ names fs e. first_link names fs e ∙ rw f }
 
       pub seeking_hit : r ≡ true → KeptIs text work b n g m p true
       seeking_hit f = record { answer = λ names fs e. sym (first_link names fs e ∙ rw f) }
@@ -166,8 +162,7 @@ pub ruleset seeking = (seeking_start, seeking_hit, seeking_more, seeking_end)
 -- ---- added links
 
 -- The state at added link i: none before it has the parts of the pair.
-pub record Comparing (text work : List ℕ) (b : Bases) (n : Counts) (g : Layout) (m : Made) (added : ℕ) (p : Pair) (i : ℕ) : Type 0 where
-  pub relinkable : Relinkable text work b n g m
+pub record Comparing (work : List ℕ) (n : Counts) (g : Layout) (m : Made) (added : ℕ) (p : Pair) (i : ℕ) : Type 0 where
   pub rows : AddedRows work n g m added
   pub there : PairThere n m p
   pub high : i ≤ added
@@ -179,13 +174,13 @@ pub record Comparing (text work : List ℕ) (b : Bases) (n : Counts) (g : Layout
 pub added_step : {work : List ℕ} {n : Counts} {g : Layout} {m : Made} {added i t : ℕ} → AddedRows work n g m added → i < added → t ≡ get_or work (g.added + i) 0 → t + 1 < m.steps
 added_step {g = g} {i = i} s h e = let z : g.added + 1 * i ≡ g.added + i = omega arith in rw e (rw z at (s.keys.row i h).step)
 
-module _ {text work : List ℕ} {b : Bases} {n : Counts} {g : Layout} {m : Made} {added : ℕ} {p : Pair} where
-  pub comparing_start : Relinkable text work b n g m × AddedRows work n g m added × PairThere n m p → Comparing text work b n g m added p 0
+module _ {work : List ℕ} {n : Counts} {g : Layout} {m : Made} {added : ℕ} {p : Pair} where
+  pub comparing_start : AddedRows work n g m added × PairThere n m p → Comparing work n g m added p 0
   unfolding keys_at
   comparing_start h =
-      record { relinkable = h.0; rows = h.1; there = h.2; high = omega arith; left = λ names d l. rw (← rows_all (key_at names g.steps) 1 work g.added added) }
+      record { rows = h.0; there = h.1; high = omega arith; left = λ names d l. rw (← rows_all (key_at names g.steps) 1 work g.added added) }
 
-  module _ {i : ℕ} (s : Comparing text work b n g m added p i) where
+  module _ {i : ℕ} (s : Comparing work n g m added p i) where
     module _ {t : ℕ} {other : Pair} {r : Bool} (h : i < added) (e : t ≡ get_or work (g.added + i) 0) (o : PairIs work n g m t other) (q : r ≡ pair_eq p other) where
       first_added : (names : List (List ℕ)) → distinct names ≡ true → length names ≡ n.segs + m.segs
           → any (same_key (key_in names p)) (keys_at names g.steps work g.added added)
@@ -196,9 +191,9 @@ module _ {text work : List ℕ} {b : Bases} {n : Counts} {g : Layout} {m : Made}
           let says = pair_says names d p other (omega arith, omega arith) (omega arith, omega arith) in
           s.left names d l ∙ rw (rows_cons (key_at names g.steps) 1 work g.added added i h, z, ← e, pair_key o names, ← says, ← eq_pairs p other, ← q)
 
-      pub comparing_more : r ≡ false → Comparing text work b n g m added p (i + 1)
+      pub comparing_more : r ≡ false → Comparing work n g m added p (i + 1)
       comparing_more f =
-          record { relinkable = s.relinkable; rows = s.rows; there = s.there; high = omega arith; left = λ names d l. first_added names d l ∙ rw f }
+          record { rows = s.rows; there = s.there; high = omega arith; left = λ names d l. first_added names d l ∙ rw f }
 
       pub comparing_hit : r ≡ true → AddedMatch work n g m added p true
       comparing_hit f = record { answer = λ names d l. sym (first_added names d l ∙ rw f) }
@@ -212,16 +207,16 @@ pub ruleset comparing = (comparing_start, comparing_hit, comparing_more, compari
 -- ---- both
 
 module _ {text work : List ℕ} {b : Bases} {n : Counts} {g : Layout} {m : Made} {added : ℕ} (p : Pair) {k : Bool}
-    (s : Relinkable text work b n g m × AddedRows work n g m added × PairThere n m p) (q : KeptIs text work b n g m p k) where
+    (s : Source text work b n g) (t : NewRows work n g m) (q : KeptIs text work b n g m p k) where
   -- the answer, with what there is room for
   found : (r : Bool) → ((names : List (List ℕ)) (fs : List Segment) → Ended text names fs work b n g m
       → r ≡ any (same_key (key_in names p)) (kept_keys text fs work b n.links ++ keys_at names g.steps work g.added added)) → LinkFound text work b n g m added p r
   found r e =
-      let d = s.0.source.placed in
-      record { answer = e; room = omega (arith, d.ends, d.room); few = s.0.source.readable.few.4; made = omega (arith, s.0.rows.few) }
+      let d = s.placed in
+      record { answer = e; room = omega (arith, d.ends, d.room); few = s.readable.few.4; made = omega (arith, t.few) }
 
-  pub found_kept : k ≡ true → LinkFound text work b n g m added p true
-  found_kept e = found true (λ names fs d. rw (any_append (same_key (key_in names p)) (kept_keys text fs work b n.links), ← q.answer names fs d, e))
+  pub found_kept : k ≡ true → LinkFound text work b n g m added p k
+  found_kept e = found k (λ names fs d. e ∙ rw (any_append (same_key (key_in names p)) (kept_keys text fs work b n.links), ← q.answer names fs d, e))
 
   pub found_added : {r : Bool} → k ≡ false → AddedMatch work n g m added p r → LinkFound text work b n g m added p r
   found_added {r} e a =

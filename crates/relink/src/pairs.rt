@@ -5,6 +5,7 @@ ghost use Rattle.link_ends.specs.LinkEnds.{Relinkable};
 
 use crate::lookup::{find_link, pair_at};
 use normalize_tables::layout::{Area, Layout};
+use normalize_tables::new_graph::NewGraph;
 use normalize_tables::rows::new_path_at;
 use tables::entry::PathNo;
 use tables::tables::Counts;
@@ -50,8 +51,9 @@ pub fn add_pair(text: &[u8], work: &mut [u32], a: Area, s: Tally, step: usize) -
     requires step_bound { (step + 1 < a.m.steps) × (s.added < a.n.steps) × (s.loops ≤ s.added) }
     ensures { PairAdded text.now work.old work.new a.b a.n a.g a.m s step result }
 {
-    let p = pair_at(text, work, a, step);
-    if find_link(text, work, a, s.added, p) {
+    let graph = NewGraph { text, work, a };
+    let p = pair_at(&graph, step);
+    if find_link(&graph, s.added, p) {
         return s;
     }
     put_link(work, a.n, a.g, s, step, p.first.node == p.second.node)

@@ -4,4 +4,4 @@ use Rattle.new_ids.proofs.Kin.{Backwards}
 use Rattle.new_ids.proofs.candidates.next_suffix.Given as goal
 
 abbrev pub invariant-loop-j : goal.invariant-loop-j
-invariant-loop-j l = Backwards l.text l.work l.a.b l.a.g (first_of l.a.m.first) l.a.m.segs l.unit l.count l.j
+invariant-loop-j l = Backwards l.news.text.now l.news.work.now l.news.a.b l.news.a.g (first_of l.news.a.m.first) l.news.a.m.segs l.unit l.count l.j

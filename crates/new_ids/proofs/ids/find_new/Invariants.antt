@@ -4,4 +4,4 @@ use Rattle.new_ids.proofs.Finding.{Seeking}
 use Rattle.new_ids.proofs.ids.find_new.Given as goal
 
 abbrev pub invariant-loop-j : goal.invariant-loop-j
-invariant-loop-j l = Seeking l.text l.work l.a.b l.a.n l.a.g (first_of l.a.m.first) l.a.m.segs l.name l.j
+invariant-loop-j l = Seeking l.news.text.now l.news.work.now l.news.a.b l.news.a.n l.news.a.g (first_of l.news.a.m.first) l.news.a.m.segs l.name l.j

@@ -5,7 +5,7 @@ use Rattle.new_ids.specs.Ids.{Tried}
 use Rattle.new_ids.proofs.ids.free_suffix.Given as goal
 
 abbrev pub invariant-loop-graph : goal.invariant-loop-graph
-invariant-loop-graph l = Tried l.text l.work l.fn.a.b l.fn.a.n l.fn.a.g (first_of l.fn.a.m.first) l.fn.a.m.segs l.id l.count l.suffix
+invariant-loop-graph l = Tried l.news.text.now l.news.work.now l.fn.news.a.b l.fn.news.a.n l.fn.news.a.g (first_of l.fn.news.a.m.first) l.fn.news.a.m.segs l.id l.count l.suffix
 
 abbrev pub decreases-loop-graph : goal.decreases-loop-graph
-decreases-loop-graph l = l.fn.a.n.segs + l.fn.a.m.segs - l.suffix
+decreases-loop-graph l = l.fn.news.a.n.segs + l.fn.news.a.m.segs - l.suffix

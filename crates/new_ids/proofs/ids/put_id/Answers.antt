@@ -2,8 +2,8 @@
 use Rattle.new_ids.proofs.Finding.{front_written, behind_written}
 use Rattle.new_ids.proofs.ids.put_id.Goals as goal
 
-pub returns-then-a-k : goal.returns-then-a-k
-returns-then-a-k c = search behind_written
+pub returns-then-news-k : goal.returns-then-news-k
+returns-then-news-k c = search behind_written
 
-pub returns-else-a-k : goal.returns-else-a-k
-returns-else-a-k c = search front_written
+pub returns-else-news-k : goal.returns-else-news-k
+returns-else-news-k c = search front_written

@@ -4,4 +4,4 @@ use Rattle.path_lines.specs.PathPieces.{nodes, path_piece}
 use Rattle.path_lines.proofs.paths.put_paths.Given as goal
 
 abbrev pub invariant-loop-p : goal.invariant-loop-p
-invariant-loop-p l = Puts l.initial.w (pieces_to (path_piece (nodes l.text l.work l.a.b l.a.n l.a.g l.a.m) l.text l.work l.a.b l.a.g) l.p) l.w
+invariant-loop-p l = Puts l.initial.w (pieces_to (path_piece (nodes l.graph.text.now l.graph.work.now l.graph.a.b l.graph.a.n l.graph.a.g l.graph.a.m) l.graph.text.now l.graph.work.now l.graph.a.b l.graph.a.g) l.p) l.w

@@ -1,6 +1,8 @@
-use borrow.Author.Rules.{rules}
-use Rattle.relink.proofs.Lookups.{added_step}
+use Rattle.relink.proofs.Lookups.{added_step, comparing_more}
 use Rattle.relink.proofs.lookup.added_link.Goals as goal
 
 pub pair_at-other-requires : goal.pair_at-other-requires
-pair_at-other-requires c = (search rules, search added_step)
+pair_at-other-requires c = search added_step
+
+pub loop-i-preserved : goal.loop-i-preserved
+loop-i-preserved c = search comparing_more

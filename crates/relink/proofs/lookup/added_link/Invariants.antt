@@ -3,4 +3,4 @@ use Rattle.relink.proofs.Lookups.{Comparing}
 use Rattle.relink.proofs.lookup.added_link.Given as goal
 
 abbrev pub invariant-loop-i : goal.invariant-loop-i
-invariant-loop-i l = Comparing l.text l.work l.a.b l.a.n l.a.g l.a.m l.added l.p l.i
+invariant-loop-i l = Comparing l.graph.work.now l.graph.a.n l.graph.a.g l.graph.a.m l.added l.p l.i

@@ -2,8 +2,8 @@
 use Rattle.rewrite.proofs.RawLines.{kept_passed, kept_put}
 use Rattle.rewrite.proofs.links.put_kept_link.Goals as goal
 
-pub returns-then-ends_at : goal.returns-then-ends_at
-returns-then-ends_at c = search kept_passed
+pub returns-then-ends : goal.returns-then-ends
+returns-then-ends c = search kept_passed
 
 pub returns : goal.returns
 returns c = search kept_put

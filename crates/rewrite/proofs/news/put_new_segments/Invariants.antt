@@ -5,4 +5,4 @@ use Rattle.rewrite.specs.Pieces.{new_piece}
 use Rattle.rewrite.proofs.news.put_new_segments.Given as goal
 
 abbrev pub invariant-loop-j : goal.invariant-loop-j
-invariant-loop-j l = Puts l.initial.w (pieces_to (new_piece l.text l.work l.a.b l.a.g (first_of l.a.m.first)) l.j) l.w
+invariant-loop-j l = Puts l.initial.w (pieces_to (new_piece l.news.text.now l.news.work.now l.news.a.b l.news.a.g (first_of l.news.a.m.first)) l.j) l.w
