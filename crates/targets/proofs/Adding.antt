@@ -63,6 +63,10 @@ module _ {text w w' : List ℕ} {b : Bases} {n : Counts} {marks : ℕ} (m : Mark
   pub marked_by : (p : Segment → Bool) → ((i : ℕ) → i < n.segs → get_or w' (marks + i) 0 ≡ bit (p (segment_no text w b i))) → Marked p text w' b n marks
   marked_by p h = record { mark = λ i l. h i l ∙ rw (segment_stands m.readable tables_kept i l) }
 
+-- where a mark was put
+pub markable_put : {text w : List ℕ} {b : Bases} {n : Counts} {marks i : ℕ} (x : ℕ) → Markable text w b n marks → i < n.segs → Markable text (set w (marks + i) x) b n marks
+markable_put {w = w} {marks = marks} {i = i} x m h = markable_stands m (only_set w (marks + i) x (omega arith) (omega arith)) (length-set w (marks + i) x)
+
 -- where the marks were cleared
 pub eligible_cleared : {text w w' : List ℕ} {b : Bases} {n : Counts} {g : Layout} → Source text w b n g → Cleared w w' g.eligible n.segs → Markable text w' b n g.eligible
 eligible_cleared s c = markable_stands (eligible_marks s) c.only c.long

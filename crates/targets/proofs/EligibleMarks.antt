@@ -6,7 +6,7 @@ use mathlib.Core.List.{List, [], ◌∷◌}
 use mathlib.Core.Path.{◌≡◌, refl, sym, ◌∙◌}
 use lib.Dec.{eqb, leb}
 use mir.Val.{bool_byte}
-use lib.ListN.{length, get_or, set, length-set}
+use lib.ListN.{length, get_or, set}
 use borrow.Author.Tests.{eq-eqb, ne_eqb}
 use Rattle.gfa_spec.specs.Bytes.{same, star, is_empty, any}
 use Rattle.gfa_spec.specs.Records.{is_self_link}
@@ -26,9 +26,13 @@ use Rattle.tables.specs.ByNumber.{segment_no, link_no, links_to, link_of, Segmen
 use Rattle.tables.proofs.ByNumber.{links_more, TablesKept, segment_stands, link_stands, links_zero}
 use Rattle.normalize_tables.specs.declared.layout.Layout.{Layout}
 use Rattle.normalize_tables.specs.Layout.{Source}
+use Rattle.tables.specs.declared.graph.Graph.{Graph}
+use Rattle.targets.specs.declared.marks.Marker.{Marker}
+use Rattle.targets.specs.Markers.{GraphOf, MarksName, MarksLink}
+use Rattle.targets.proofs.Markers.{same_none, link_in}
 use Rattle.targets.specs.Marking.{Markable, Adds, NameMarked, LinkMarked, UnitsKept, MarkedIs}
-use Rattle.work.proofs.Filling.{only_set, Filling, filling_ahead, filling_behind, filling_more, filling_end}
-use Rattle.targets.proofs.Adding.{eligible_marks, tables_kept, tables_same, marked_by, markable_stands, cleared_marks, adds_none, adds_alike, adds_then}
+use Rattle.work.proofs.Filling.{Filling, filling_start, filling_ahead, filling_behind, filling_more, filling_end}
+use Rattle.targets.proofs.Adding.{eligible_marks, tables_kept, tables_same, marked_by, markable_put, cleared_marks, adds_none, adds_alike, adds_then}
 
 -- ---- self-links
 
@@ -44,13 +48,24 @@ module _ (x y name : List ℕ) where
 
 module _ {text w : List ℕ} {b : Bases} {n : Counts} {marks i : ℕ} {l : LinkWords} {r : Bool} (q : LinkIs text w b i l)
     (e : r ≡ is_self_link (link_of text l)) where
-  pub link_other : Markable text w b n marks → r ≡ false → LinkMarked text w w b n marks i
+  link_other : Markable text w b n marks → r ≡ false → LinkMarked text w w b n marks i
   unfolding is_self_link
   link_other m h = record { adds = adds_alike (adds_none m) (λ s. rw q.link (other_name (bytes_in text l.from) (bytes_in text l.to) s.id (sym e ∙ h))) }
 
-  pub link_marked : {w' : List ℕ} → r ≡ true → NameMarked text w w' b n marks l.from → LinkMarked text w w' b n marks i
+  link_marked : {w' : List ℕ} → r ≡ true → NameMarked text w w' b n marks l.from → LinkMarked text w w' b n marks i
   unfolding is_self_link
   link_marked h a = record { adds = adds_alike a.adds (λ s. rw q.link (one_name (bytes_in text l.from) (bytes_in text l.to) s.id (sym e ∙ h))) }
+
+-- what a marker makes of a link
+module _ {m : Marker} {g : Graph} {i : ℕ} {l : LinkWords} {r : Bool} (o : GraphOf m g) (q : LinkIs g.text.now g.work.now g.b i l) (e : r ≡ is_self_link (link_of g.text.now l)) where
+  pub passed_other : r ≡ false → MarksLink m i m
+  passed_other h = record { same = same_none; adds = link_other (link_in o q) (rw o.text at e) m.markable h }
+
+  pub passed_linked : {m' : Marker} → r ≡ true → MarksName m l.from m' → MarksLink m i m'
+  passed_linked h a = record { same = a.same; adds = link_marked (link_in o q) (rw o.text at e) h a.adds }
+
+-- what the marking of a link goes on by
+pub ruleset passing = (passed_other, passed_linked)
 
 -- The state at link i: the segments with a self-link among those before it are marked.
 pub record Linking (text before work : List ℕ) (b : Bases) (n : Counts) (marks i : ℕ) : Type 0 where
@@ -128,9 +143,12 @@ module _ {cap : ℕ} {text before : List ℕ} {b : Bases} {n : Counts} {marks : 
       let here = sym (segment_stands s.markable.readable tables i h) ∙ q.segment in
       record {
         markable = s.markable;
-        ready = markable_stands s.ready (only_set work (marks + i) x (omega arith) (omega arith)) (length-set work (marks + i) x);
+        ready = markable_put x s.ready h;
         stored = filling_more s.stored x h ((bit_byte t ex).0 ∙ rw (et, here, filling_ahead s.stored (marks + i) (omega arith)));
       }
+
+  pub leaving_start : Markable text before b n marks → Leaving cap text before before b n marks 0
+  leaving_start m = record { markable = m; ready = m; stored = filling_start m.room }
 
   pub leaving_end : {work : List ℕ} {i : ℕ} → Leaving cap text before work b n marks i → n.segs ≤ i → UnitsKept cap text before work b n marks
   leaving_end s h =
@@ -143,13 +161,14 @@ module _ {cap : ℕ} {text before : List ℕ} {b : Bases} {n : Counts} {marks : 
 
 -- ---- the eligible segments
 
-pub eligible_marked : {cap : ℕ} {text w v u w' : List ℕ} {b : Bases} {n : Counts} {g : Layout} → Source text w b n g → Cleared w v g.eligible n.segs
-    → Adds (λ s. self_linked (links_to text v b n.links) s.id) text v u b n g.eligible → UnitsKept cap text u w' b n g.eligible → MarkedIs cap text w w' b n g
-eligible_marked {text = text} {b = b} {n = n} {g = g} s c a k =
+pub eligible_marked : {cap : ℕ} {text w v u w' x : List ℕ} {b : Bases} {n : Counts} {g : Layout} → Source text w b n g → Cleared w v g.eligible n.segs
+    → Adds (λ s. self_linked (links_to text v b n.links) s.id) text v u b n g.eligible → UnitsKept cap text u w' b n g.eligible → x ≡ w' → MarkedIs cap text w x b n g
+eligible_marked {text = text} {b = b} {n = n} {g = g} s c a k e =
     let m = eligible_marks s in
     let all = span g.eligible (g.eligible + n.segs) ∷ [] in
-    record {
+    rw e
+    (record {
       marked = rw (← (tables_same m c.only).of_links) (k.marked _ (a.marked (λ s. false) (cleared_marks m c)));
       long = k.long ∙ a.long ∙ c.long;
       only = only_then all (only_then all c.only a.only (λ i o. (o, o))) k.only (λ i o. (o, o));
-    }
+    })

@@ -29,6 +29,10 @@ use Rattle.tables.proofs.ByNumber.{paths_more, steps_none, segment_stands, path_
 use Rattle.normalize_tables.specs.declared.layout.Layout.{Layout}
 use Rattle.normalize_tables.specs.Layout.{Source}
 use Rattle.normalize_tables.specs.Marks.{Marked}
+use Rattle.tables.specs.declared.graph.Graph.{Graph}
+use Rattle.targets.specs.declared.marks.Marker.{Marker}
+use Rattle.targets.specs.Markers.{GraphOf, MarksName, MarksNext}
+use Rattle.targets.proofs.Markers.{same_none, run_in, step_in}
 use Rattle.targets.specs.Marking.{Markable, Adds, NameMarked, is_run_on, NextMarked, PathMarked, both_at, sum_to, BothKept, MarkFoldedIs}
 use Rattle.work.proofs.Filling.{Filling, filling_start, filling_ahead, filling_behind, filling_more}
 use Rattle.targets.proofs.Adding.{folded_marks, tables_kept, tables_same, marked_by, cleared_marks, adds_none, adds_alike, adds_then}
@@ -36,14 +40,25 @@ use Rattle.targets.proofs.Adding.{folded_marks, tables_kept, tables_same, marked
 -- ---- a run
 
 module _ {text w : List ℕ} {b : Bases} {n : Counts} {marks i end r : ℕ} (q : RunFrom text w b i end r) where
-  pub next_short : Markable text w b n marks → r - i < 2 → NextMarked text w w b n marks i end r
+  next_short : Markable text w b n marks → r - i < 2 → NextMarked text w w b n marks i end r
   unfolding is_repeat
   next_short m h = record { run = q; adds = adds_alike (adds_none m) (λ s. rw (lt-leb 2 (r - i) h)) }
 
-  pub next_marked : {w' : List ℕ} {s : StepWords} → 2 ≤ r - i → StepIs text w b i s → NameMarked text w w' b n marks s.name → NextMarked text w w' b n marks i end r
+  next_marked : {w' : List ℕ} {s : StepWords} → 2 ≤ r - i → StepIs text w b i s → NameMarked text w w' b n marks s.name → NextMarked text w w' b n marks i end r
   unfolding is_repeat part_at
   next_marked {s = s} h e a =
       record { run = q; adds = adds_alike a.adds (λ t. rw (le-leb 2 (r - i) h, same_sym t.id (bytes_in text s.name), e.step)) }
+
+-- what a marker makes of a run
+module _ {m : Marker} {g : Graph} {i end r : ℕ} (o : GraphOf m g) (q : RunFrom g.text.now g.work.now g.b i end r) where
+  pub passed_short : r - i < 2 → MarksNext m i end r m
+  passed_short h = record { same = same_none; adds = next_short (run_in o q) m.markable h }
+
+  pub passed_marked : {m' : Marker} {s : StepWords} → 2 ≤ r - i → StepIs g.text.now g.work.now g.b i s → MarksName m s.name m' → MarksNext m i end r m'
+  passed_marked h e a = record { same = a.same; adds = next_marked (run_in o q) h (step_in o e) a.adds }
+
+-- what the marking of a run goes on by
+pub ruleset passing = (passed_short, passed_marked)
 
 -- ---- the runs of a path
 
@@ -172,3 +187,8 @@ module _ {text w v u w' : List ℕ} {b : Bases} {n : Counts} {g : Layout} {r : �
         long = k.long ∙ a.long ∙ c.long;
         only = changed_all;
       }
+
+-- where the work area comes back from a marker
+pub folded_given : {text w v u x w' : List ℕ} {b : Bases} {n : Counts} {g : Layout} {r : ℕ} → Source text w b n g → Cleared w v g.folded n.segs
+    → Adds (λ t. any (repeats_on t.id) (paths_to text v b n.paths)) text v u b n g.folded → BothKept x w' g n.segs r → x ≡ u → MarkFoldedIs text w w' b n g r
+folded_given s c a k e = folded_marked s c a (rw e at k)

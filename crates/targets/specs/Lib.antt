@@ -1,2 +1,3 @@
 -- What the contracts of the marks say.
 pub mod Marking
+pub mod Markers

@@ -1,38 +1,37 @@
 // The eligible segments (document 01, "Folding", rule 1).
 ghost use Rattle.std.specs.Prelude.{◌≡◌, ◌<◌};
-ghost use Rattle.normalize_spec.specs.Folding.{self_linked, is_unit};
-ghost use Rattle.tables.specs.ByNumber.{links_to};
+ghost use Rattle.normalize_spec.specs.Folding.{is_unit};
 ghost use Rattle.normalize_tables.specs.Layout.{Source};
-ghost use Rattle.targets.specs.Marking.{Markable, Adds, LinkMarked, UnitsKept, MarkedIs};
+ghost use Rattle.targets.specs.Marking.{MarkedIs};
+ghost use Rattle.targets.specs.Markers.{MarksLink, MarksSelfLinks, KeepsUnits};
 
-use crate::marks::{is_marked, mark_name};
+use crate::marks::{Marker, is_marked};
 use normalize_tables::layout::Layout;
 use runs::counts::is_self_link;
 use scan::names::is_star;
 use tables::entry::{LinkNo, SegmentNo};
-use tables::graph::Graph;
 use tables::tables::{Bases, Counts};
 use work::work::clear_words;
 
 // Marks the segment of link `i`, where that is a self-link.
-pub fn mark_link(text: &[u8], work: &mut [u32], b: Bases, n: Counts, marks: usize, i: usize)
-    requires { Markable text.now work.old b n marks × (i < n.links) }
-    ensures { LinkMarked text.now work.old work.new b n marks i }
+#[tactic(auto, using(crate::proofs::EligibleMarks::passing))]
+pub fn mark_link(marks: &mut Marker, i: usize)
+    requires { i < marks.old.n.links }
+    ensures { MarksLink marks.old i marks.new }
 {
-    let graph = Graph { text, work, b, n };
+    let graph = marks.graph();
     let l = graph.link(LinkNo(i as u32));
-    if is_self_link(text, l) {
-        mark_name(text, work, b, n, marks, l.from);
+    if is_self_link(graph.text, l) {
+        marks.mark_name(l.from);
     }
 }
 
 // Marks the segments with a self-link.
-pub fn mark_self_links(text: &[u8], work: &mut [u32], b: Bases, n: Counts, marks: usize)
-    requires { Markable text.now work.old b n marks }
-    ensures { Adds (λ s. self_linked (links_to text.now work.old b n.links) s.id) text.now work.old work.new b n marks }
+pub fn mark_self_links(marks: &mut Marker)
+    ensures { MarksSelfLinks marks.old marks.new }
 {
-    for i in 0..n.links {
-        mark_link(text, work, b, n, marks, i);
+    for i in 0..marks.n.links {
+        mark_link(marks, i);
     }
 }
 
@@ -48,15 +47,15 @@ pub fn is_unit(unit: &[u8], cap: usize) -> bool
 }
 
 // Clears the marks of the segments that may not be folded.
-pub fn keep_units(text: &[u8], work: &mut [u32], b: Bases, n: Counts, marks: usize, cap: usize)
-    requires { Markable text.now work.old b n marks }
-    ensures { UnitsKept cap text.now work.old work.new b n marks }
+pub fn keep_units(marks: &mut Marker, cap: usize)
+    ensures { KeepsUnits cap marks.old marks.new }
 {
-    for i in 0..n.segs {
-        let graph = Graph { text, work, b, n };
+    for i in 0..marks.n.segs {
+        let at = marks.base + i;
+        let graph = marks.graph();
         let s = graph.segment(SegmentNo(i as u32));
-        let stays = is_marked(work, marks + i) && is_unit(s.sequence.of(text), cap);
-        work[marks + i] = u32::from(stays);
+        let stays = is_marked(graph.work, at) && is_unit(s.sequence.of(graph.text), cap);
+        marks.work[at] = u32::from(stays);
     }
 }
 
@@ -66,6 +65,13 @@ pub fn mark_eligible(text: &[u8], work: &mut [u32], b: Bases, n: Counts, g: Layo
     ensures { MarkedIs cap text.now work.old work.new b n g }
 {
     clear_words(work, g.eligible, n.segs);
-    mark_self_links(text, work, b, n, g.eligible);
-    keep_units(text, work, b, n, g.eligible, cap);
+    let mut marks = Marker {
+        text,
+        work,
+        b,
+        n,
+        base: g.eligible,
+    };
+    mark_self_links(&mut marks);
+    keep_units(&mut marks, cap);
 }

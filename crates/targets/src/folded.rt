@@ -1,12 +1,10 @@
 // The folded segments (document 01, "Folding", rule 2): eligible ones with a maximal run of two or more equal steps on a path.
 ghost use Rattle.std.specs.Prelude.{◌+◌, ◌≤◌, ◌<◌, length};
-ghost use Rattle.gfa_spec.specs.Bytes.{any};
-ghost use Rattle.normalize_spec.specs.Folding.{repeats_on};
-ghost use Rattle.tables.specs.ByNumber.{paths_to};
 ghost use Rattle.normalize_tables.specs.Layout.{Source};
-ghost use Rattle.targets.specs.Marking.{Markable, Adds, OnMarked, AnyIs, NextMarked, PathMarked, BothKept, MarkFoldedIs};
+ghost use Rattle.targets.specs.Marking.{Markable, OnMarked, AnyIs, BothKept, MarkFoldedIs};
+ghost use Rattle.targets.specs.Markers.{MarksNext, MarksPath, MarksPaths};
 
-use crate::marks::{is_marked, mark_name};
+use crate::marks::{Marker, is_marked};
 use normalize_tables::layout::Layout;
 use runs::runs::{Runs, run_from};
 use tables::entry::PathNo;
@@ -46,57 +44,40 @@ pub fn any_folded(graph: &Graph, g: Layout) -> bool
 }
 
 // Marks the segment of the run from step `i` on, of the steps before step `end`, where that is one of two or more; answers where it ends.
-pub fn mark_next(
-    text: &[u8],
-    work: &mut [u32],
-    b: Bases,
-    n: Counts,
-    marks: usize,
-    i: usize,
-    end: usize,
-) -> usize
-    requires { Markable text.now work.old b n marks × (i < end) × (end ≤ n.steps) }
-    ensures { NextMarked text.now work.old work.new b n marks i end result }
+#[tactic(auto, using(crate::proofs::FoldedMarks::passing))]
+pub fn mark_next(marks: &mut Marker, i: usize, end: usize) -> usize
+    requires { (i < end) × (end ≤ marks.old.n.steps) }
+    ensures { MarksNext marks.old i end result marks.new }
 {
-    let graph = Graph { text, work, b, n };
+    let graph = marks.graph();
     let next = run_from(&graph, i, end);
     if next - i < 2 {
         return next;
     }
     let step = graph.step(i);
-    mark_name(text, work, b, n, marks, step.name);
+    marks.mark_name(step.name);
     next
 }
 
 // Marks the segments that the steps from `first` up to `end` have a run of two or more on.
-pub fn mark_path(
-    text: &[u8],
-    work: &mut [u32],
-    b: Bases,
-    n: Counts,
-    marks: usize,
-    first: usize,
-    end: usize,
-)
-    requires { Markable text.now work.old b n marks × (first ≤ end) × (end ≤ n.steps) }
-    ensures { PathMarked text.now work.old work.new b n marks first end }
+pub fn mark_path(marks: &mut Marker, first: usize, end: usize)
+    requires { (first ≤ end) × (end ≤ marks.old.n.steps) }
+    ensures { MarksPath marks.old first end marks.new }
 {
     let mut i = first;
     // No `for` over `Runs`: each turn writes the work area, which the runs' graph would hold lent across the loop.
     while i < end {
-        i = mark_next(text, work, b, n, marks, i, end);
+        i = mark_next(marks, i, end);
     }
 }
 
 // Marks the segments that some path has a run of two or more on.
-pub fn mark_paths(text: &[u8], work: &mut [u32], b: Bases, n: Counts, marks: usize)
-    requires { Markable text.now work.old b n marks }
-    ensures { Adds (λ s. any (repeats_on s.id) (paths_to text.now work.old b n.paths)) text.now work.old work.new b n marks }
+pub fn mark_paths(marks: &mut Marker)
+    ensures { MarksPaths marks.old marks.new }
 {
-    for p in 0..n.paths {
-        let graph = Graph { text, work, b, n };
-        let path = graph.path(PathNo(p as u32));
-        mark_path(text, work, b, n, marks, path.first, path.end);
+    for p in 0..marks.n.paths {
+        let path = marks.graph().path(PathNo(p as u32));
+        mark_path(marks, path.first, path.end);
     }
 }
 
@@ -120,6 +101,13 @@ pub fn mark_folded(text: &[u8], work: &mut [u32], b: Bases, n: Counts, g: Layout
     ensures { MarkFoldedIs text.now work.old work.new b n g result }
 {
     clear_words(work, g.folded, n.segs);
-    mark_paths(text, work, b, n, g.folded);
+    let mut marks = Marker {
+        text,
+        work,
+        b,
+        n,
+        base: g.folded,
+    };
+    mark_paths(&mut marks);
     keep_eligible(work, g, n.segs)
 }

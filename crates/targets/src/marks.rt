@@ -1,7 +1,9 @@
 // Marks: a word for each segment, 1 where it is marked.
 ghost use Rattle.std.specs.Prelude.{◌≡◌, ◌<◌, eqb, length, get_or};
+ghost use Rattle.std.proofs.Props.{props};
 ghost use Rattle.scan.specs.Places.{Inside};
-ghost use Rattle.targets.specs.Marking.{Markable, NameMarked};
+ghost use Rattle.tables.specs.Props.{Fits-prop};
+ghost use Rattle.targets.specs.Marking.{Markable};
 
 use scan::places::Place;
 use tables::graph::Graph;
@@ -15,13 +17,39 @@ pub fn is_marked(work: &[u32], at: usize) -> bool
     work[at] == 1
 }
 
-// Marks the segment that has the name, if one has it.
-pub fn mark_name(text: &[u8], work: &mut [u32], b: Bases, n: Counts, marks: usize, name: Place)
-    requires { Markable text.now work.old b n marks × Inside text.now name }
-    ensures { NameMarked text.now work.old work.new b n marks name }
-{
-    let graph = Graph { text, work, b, n };
-    if let Some(found) = graph.named(name) {
-        work[marks + found.0 as usize] = 1;
+// What marks segments: the tables of a text in which no two segments have one ID, and a word for each segment, from the word `base` on.
+#[derive(Drop)]
+pub struct Marker<'a> {
+    pub text: &'a [u8],
+    pub work: &'a mut [u32],
+    pub b: Bases,
+    pub n: Counts,
+    pub base: usize,
+    ghost markable: { Markable text.now work.now b n base } by { Prim.hlevel (props, Fits-prop) },
+}
+
+impl<'a> Marker<'a> {
+    ghost use Rattle.targets.specs.Markers.{GraphOf, MarksName};
+
+    // The graph whose segments are marked.
+    pub fn graph(&self) -> Graph<'_>
+        ensures { GraphOf self.now result }
+    {
+        Graph {
+            text: self.text,
+            work: self.work,
+            b: self.b,
+            n: self.n,
+        }
+    }
+
+    // Marks the segment that has the name, if one has it.
+    pub fn mark_name(&mut self, name: Place)
+        requires { Inside self.old.text.now name }
+        ensures { MarksName self.old name self.new }
+    {
+        if let Some(found) = self.graph().named(name) {
+            self.work[self.base + found.0 as usize] = 1;
+        }
     }
 }

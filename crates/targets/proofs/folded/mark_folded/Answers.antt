@@ -1,10 +1,11 @@
 -- `targets::folded::mark_folded` meets its contract, by its three passes. Assumes nothing.
+use borrow.Author.Rules.{rules}
 use Rattle.targets.proofs.Adding.{folded_cleared}
-use Rattle.targets.proofs.FoldedMarks.{folded_marked}
+use Rattle.targets.proofs.FoldedMarks.{folded_given}
 use Rattle.targets.proofs.folded.mark_folded.Goals as goal
 
-pub mark_paths-requires : goal.mark_paths-requires
-mark_paths-requires c = search folded_cleared
+pub invariant_of-marks : goal.invariant_of-marks
+invariant_of-marks c = record { markable = folded_cleared c.requires c.clear_words.ensures }
 
 pub returns : goal.returns
-returns c = search folded_marked
+returns c = folded_given c.requires c.clear_words.ensures c.mark_paths.ensures.adds c.keep_eligible.ensures (search rules)

@@ -1,10 +1,11 @@
 -- `targets::folded::mark_path` meets its contract. The loop's invariant is its state at a step. Assumes nothing.
 use Prim.Native.Nat.{◌-◌}
+use Rattle.targets.specs.Markers.{SameMarks}
 use Rattle.targets.proofs.FoldedMarks.{Marking}
 use Rattle.targets.proofs.folded.mark_path.Given as goal
 
 abbrev pub invariant-loop-i : goal.invariant-loop-i
-invariant-loop-i l = Marking l.text l.initial.work l.work l.b l.n l.marks l.first l.end l.i
+invariant-loop-i l = let m = l.initial.marks in SameMarks m l.marks × Marking m.text.now m.work.now l.marks.work.now m.b m.n m.base l.first l.end l.i
 
 abbrev pub decreases-loop-i : goal.decreases-loop-i
 decreases-loop-i l = l.end - l.i
