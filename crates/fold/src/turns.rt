@@ -51,7 +51,8 @@ pub fn is_folded(work: &[u32], g: Layout, unit: SegmentNo, count: usize) -> bool
     2 <= count && word(work, g.folded + unit.0 as usize) == 1
 }
 
-// The node of the new segment of the unit and the run length, which is made where there is none.
+// The node of the new segment of the unit and the run length, which is made where there is none. Here and below what is written passes by
+// itself: with all in a struct over `&mut work`, each contract has a clause more, that text, bases, counts and layout stay.
 #[tactic(auto, using(crate::proofs::Turning::targets))]
 pub fn target_for(text: &[u8], work: &mut [u32], a: Area, unit: SegmentNo, count: usize) -> Target
     requires { Stage text.now work.old a.b a.n a.g a.m × Room a.n a.m count × (unit.0 < a.n.segs) × (2 ≤ count) }

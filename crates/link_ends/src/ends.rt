@@ -49,7 +49,7 @@ pub fn ends_of(graph: &NewGraph, l: LinkWords) -> Ends
     Ends { from, to, gone }
 }
 
-// Puts the words of link `i`; answers whether it is removed.
+// Puts the words of link `i`; answers whether it is removed. What is written passes by itself, here and in crate relink, as in crate fold.
 pub fn settle_ends(text: &[u8], work: &mut [u32], a: Area, i: LinkNo) -> bool
     requires { Relinkable text.now work.old a.b a.n a.g a.m × (i.0 < a.n.links) }
     ensures { EndsSettled text.now work.old work.new a.b a.n a.g a.m i.0 result }
