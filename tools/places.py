@@ -13,7 +13,6 @@ ROWS = [
     ("1", "own enums taken apart by let .. else", r"let [A-Z][A-Za-z]*::[A-Z][A-Za-z]*\(?.*= .*else"),
     ("1", "refusals by number", r"(plain|refused|Refused|Bad|fail|read)\([^)]*\b([1-9]|1[0-9]|2[0-2])\b|return (Spelt|Checked|Added|Bad|Steps)::"),
     ("1", "tests of a sign's number", r"== 4[35]|!= 4[35]"),
-    ("1", "numbers plus one", r"(last|first|number|before|path|from|to|k|q|p) \+ 1\b"),
     ("3", "while", r"^\s*while "),
     ("3", "indices counted by hand", r"^\s*[a-z]+ \+= 1;"),
     ("3", "for", r"^\s*for "),
