@@ -5,11 +5,10 @@ ghost use Rattle.normalize_tables.specs.Layout.{Placed};
 ghost use Rattle.normalize_tables.specs.Rewritten.{NewRows};
 ghost use Rattle.fold.specs.Pairings.{NewPairsIs, NewPairTotals};
 
-use normalize_tables::layout::{Area, Layout, Made};
+use normalize_tables::layout::Area;
 use normalize_tables::rows::{new_path_at, new_step_at};
 use runs::counts::Pairs;
 use tables::entry::PathNo;
-use tables::tables::{Bases, Counts};
 
 // The adjacent pairs of the new steps from `first` up to, not including, `end`.
 pub fn count_new_pairs(work: &[u32], a: Area, first: usize, end: usize) -> Pairs
@@ -29,15 +28,13 @@ pub fn count_new_pairs(work: &[u32], a: Area, first: usize, end: usize) -> Pairs
 }
 
 // The adjacent pairs of all new paths.
-pub fn new_pairs(work: &[u32], b: Bases, n: Counts, g: Layout, m: Made) -> Pairs
-    requires new_rows { NewRows work.now n g m }
-    requires placed { Placed b n g (length work.now) × Few n }
-    ensures { NewPairTotals work.now n g m result }
+pub fn new_pairs(work: &[u32], a: Area) -> Pairs
+    requires { NewRows work.now a.n a.g a.m × Placed a.b a.n a.g (length work.now) × Few a.n }
+    ensures { NewPairTotals work.now a.n a.g a.m result }
 {
-    let a = Area { b, n, g, m };
     let mut nodes = 0;
     let mut steps = 0;
-    for i in 0..n.paths {
+    for i in 0..a.n.paths {
         let path = new_path_at(work, a, PathNo(i as u32));
         let more = count_new_pairs(work, a, path.first, path.end);
         nodes += more.nodes;

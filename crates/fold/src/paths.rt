@@ -18,24 +18,26 @@ use work::work::clear_words;
 pub fn transform_path_steps(
     text: &[u8],
     work: &mut [u32],
-    b: Bases,
-    n: Counts,
-    g: Layout,
-    m: Made,
+    a: Area,
     first: usize,
     end: usize,
 ) -> Made
-    requires stage { Stage text.now work.old b n g m × Room n m (end - first) }
-    requires first_le_end { (first ≤ end) × (end ≤ n.steps) × KnownSteps text.now work.old b n first end }
-    ensures { StepsTurned text.now work.old work.new b n g m first end result }
+    requires stage { Stage text.now work.old a.b a.n a.g a.m × Room a.n a.m (end - first) }
+    requires first_le_end { (first ≤ end) × (end ≤ a.n.steps) × KnownSteps text.now work.old a.b a.n first end }
+    ensures { StepsTurned text.now work.old work.new a.b a.n a.g a.m first end result }
 {
-    let mut made = m;
+    let mut made = a.m;
     let mut i = first;
     // No `for` over `Runs`: each turn writes the work area, which the runs' graph would hold lent across the loop.
     while i < end {
-        let graph = Graph { text, work, b, n };
+        let graph = Graph {
+            text,
+            work,
+            b: a.b,
+            n: a.n,
+        };
         let next = run_from(&graph, i, end);
-        made = turn_run(text, work, Area { b, n, g, m: made }, i, next - i);
+        made = turn_run(text, work, Area { m: made, ..a }, i, next - i);
         i = next;
     }
     made
@@ -58,31 +60,28 @@ fn with_path(m: Made, t: Made) -> Made
 
 // Transforms path `p`: its new steps are put behind the others, and its row.
 #[tactic(auto, using(crate::proofs::Passing::path_room, crate::proofs::Passing::path_known))]
-pub fn transform_path(
-    text: &[u8],
-    work: &mut [u32],
-    b: Bases,
-    n: Counts,
-    g: Layout,
-    m: Made,
-    p: PathNo,
-) -> Made
-    requires { Stage text.now work.old b n g m × PathReady text.now work.old b n m p.0 }
-    ensures { NextIs text.now work.old work.new b n g m p.0 result }
+pub fn transform_path(text: &[u8], work: &mut [u32], a: Area, p: PathNo) -> Made
+    requires { Stage text.now work.old a.b a.n a.g a.m × PathReady text.now work.old a.b a.n a.m p.0 }
+    ensures { NextIs text.now work.old work.new a.b a.n a.g a.m p.0 result }
 {
-    let graph = Graph { text, work, b, n };
+    let graph = Graph {
+        text,
+        work,
+        b: a.b,
+        n: a.n,
+    };
     let path = graph.path(p);
-    let t = transform_path_steps(text, work, b, n, g, m, path.first, path.end);
+    let t = transform_path_steps(text, work, a, path.first, path.end);
     put_new_path(
         work,
-        g,
+        a.g,
         p,
         NewPathWords {
-            first: m.steps,
+            first: a.m.steps,
             end: t.steps,
         },
     );
-    with_path(m, t)
+    with_path(a.m, t)
 }
 
 // Transforms all paths: new segments, new steps and new paths are put into their tables.
@@ -102,7 +101,7 @@ pub fn transform(text: &[u8], work: &mut [u32], b: Bases, n: Counts, g: Layout) 
         changed: 0,
     };
     for p in 0..n.paths {
-        m = transform_path(text, work, b, n, g, m, PathNo(p as u32));
+        m = transform_path(text, work, Area { b, n, g, m }, PathNo(p as u32));
     }
     m
 }

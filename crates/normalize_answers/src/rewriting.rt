@@ -89,8 +89,9 @@ pub fn pass_text(text: &[u8], work: &mut [u32], b: Bases, n: Counts, g: Layout) 
     ensures { PassedIs text.now work.old work.new b n g result }
 {
     let m = transform(text, work, b, n, g);
-    let pairs = new_pairs(work, b, n, g, m);
-    let l = settle_links(text, work, Area { b, n, g, m });
+    let a = Area { b, n, g, m };
+    let pairs = new_pairs(work, a);
+    let l = settle_links(text, work, a);
     Passed { m, l, pairs }
 }
 
