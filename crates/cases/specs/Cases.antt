@@ -1,7 +1,7 @@
 -- What the reader of a list of cases answers, and what its comparisons tell.
 use Rattle.std.specs.Prelude.{ℕ, ◌+◌, ◌-◌, ◌≤◌, ◌<◌, Bool, true, List, ◌≡◌, length, get_or}
 use Rattle.gfa_spec.specs.Bytes.{part}
-use Rattle.cases.specs.declared.lists.Case.{Case}
+use Rattle.cases.specs.declared.lists.Parts.{Parts}
 
 -- A place not before `from`, in a list of so many bytes or at its end.
 pub record Skipped (size from r : ℕ) : Type 0 where
@@ -9,7 +9,7 @@ pub record Skipped (size from r : ℕ) : Type 0 where
   pub high : r ≤ size
 
 -- The parts of a case follow each other within the list, and the next case comes behind it.
-pub record CaseIs (size start : ℕ) (c : Case) : Type 0 where
+pub record CaseIs (size start : ℕ) (c : Parts) : Type 0 where
   pub here : c.start ≡ start
   pub name : start ≤ c.blank
   pub head : c.blank ≤ c.end
@@ -44,7 +44,7 @@ pub record LeftWords (work : List ℕ) (words : ℕ) : Type 0 where
   pub rest : EachIs work words (length work) 2779096485
 
 -- The row has the numbers of the answer and what more was counted, and the buffer holds the case's output.
-pub record Agrees (list : List ℕ) (c : Case) (row answer more out : List ℕ) : Type 0 where
+pub record Agrees (list : List ℕ) (c : Parts) (row answer more out : List ℕ) : Type 0 where
   pub numbers : SameNumbers row 4 answer
   pub counts : SameNumbers row 10 more
   pub bytes : LeftBytes out (part c.output (c.last - c.output) list)

@@ -4,7 +4,7 @@
 
 ghost use Rattle.std.specs.Prelude.{◌-◌, ◌≤◌, length};
 ghost use Rattle.gfa_spec.specs.Bytes.{part};
-ghost use Rattle.cases.specs.Cases.{Tells, CaseIs, LeftBytes};
+ghost use Rattle.cases.specs.Cases.{Tells, LeftBytes};
 
 mod placing;
 mod reading;
@@ -18,16 +18,13 @@ use cases::lists::{Case, Cases};
 use cases::tallies::{Tally, counted, print};
 
 // Calls the leaf that a case names, on a buffer that holds a pattern: are its answer and the buffer as expected?
-fn case_agrees(list: &[u8], c: Case, row: &[usize; 24], out: &mut [u8]) -> bool
-    requires { CaseIs (length list.now) c.start c }
-    ensures { Tells (LeftBytes out.new (part c.output (c.last - c.output) list.now)) result }
+fn case_agrees(c: &Case<'_>, out: &mut [u8]) -> bool
+    ensures { Tells (LeftBytes out.new (part c.now.parts.output (c.now.parts.last - c.now.parts.output) c.now.list.now)) result }
 {
-    let name = &list[c.start..c.blank];
-    let text = &list[c.text..c.stop];
-    let room = row[ROOM].min(out.len());
+    let room = c.row[ROOM].min(out.len());
     fill_bytes(out);
-    let answer = writing(name, row, text, &mut out[..room]);
-    agrees(list, c, row, &answer, &[], out)
+    let answer = writing(c.name(), &c.row, c.text(), &mut out[..room]);
+    agrees(c, &answer, &[], out)
 }
 
 // Runs the cases in their order.
@@ -38,9 +35,9 @@ fn run(list: &[u8], out: &mut [u8]) -> Tally
         cases: 0,
         differ: 0,
     };
-    for (c, row) in Cases::of(list) {
-        let agrees = case_agrees(list, c, &row, out);
-        t = counted(t, list, c.start, c.end, agrees);
+    for c in Cases::of(list) {
+        let agrees = case_agrees(&c, out);
+        t = counted(t, c.header(), agrees);
     }
     t
 }

@@ -1,6 +1,6 @@
 // A case replayed: its call, and all that the call returns and leaves behind.
 ghost use Rattle.std.specs.Prelude.{◌≡◌, length};
-ghost use Rattle.cases.specs.Cases.{Tells, CaseIs};
+ghost use Rattle.cases.specs.Cases.{Tells};
 ghost use Rattle.replay.specs.Left.{Left};
 
 use crate::counters::counters;
@@ -46,45 +46,29 @@ pub fn call(
 
 // Are the answer and the counters of a call those of its case, and do its buffers hold the output, a cleared work area and nothing else
 // that is new?
-pub fn result_agrees(
-    list: &[u8],
-    c: Case,
-    row: &[usize; 24],
-    r: NormalizeSelfLoopsResult,
-    out: &[u8],
-    work: &[u32],
-) -> bool
-    requires { CaseIs (length list.now) c.start c }
-    ensures { Tells (Left list.now c row.now out.now work.now) result }
+pub fn result_agrees(c: &Case<'_>, r: NormalizeSelfLoopsResult, out: &[u8], work: &[u32]) -> bool
+    ensures { Tells (Left c.now.list.now c.now.parts c.now.row out.now work.now) result }
 {
     let a = r.answer;
     let answer = [a.number, a.line, a.from, a.length];
-    let more = counters(list[c.start], r.stats);
-    agrees(list, c, row, &answer, &more, out) && words_left(work, row[WORK])
+    let more = counters(c.letter(), r.stats);
+    agrees(c, &answer, &more, out) && words_left(work, c.row[WORK])
 }
 
 // Replays the call of a case in buffers that hold a pattern: is all as recorded?
-pub fn case_agrees(
-    list: &[u8],
-    c: Case,
-    row: &[usize; 24],
-    out: &mut [u8],
-    work: &mut [u32],
-) -> bool
-    requires { CaseIs (length list.now) c.start c }
-    ensures { Tells (Left list.now c row.now out.new work.new) result }
+pub fn case_agrees(c: &Case<'_>, out: &mut [u8], work: &mut [u32]) -> bool
+    ensures { Tells (Left c.now.list.now c.now.parts c.now.row out.new work.new) result }
 {
-    let text = &list[c.text..c.stop];
-    let room = row[ROOM].min(out.len());
-    let words = row[WORK].min(work.len());
+    let room = c.row[ROOM].min(out.len());
+    let words = c.row[WORK].min(work.len());
     fill_bytes(out);
     fill_words(work);
     let r = call(
-        list[c.start],
-        text,
-        row[ARG],
+        c.letter(),
+        c.text(),
+        c.row[ARG],
         &mut out[..room],
         &mut work[..words],
     );
-    result_agrees(list, c, row, r, out, work)
+    result_agrees(c, r, out, work)
 }

@@ -3,7 +3,6 @@
 #![tactic(auto)]
 
 ghost use Rattle.std.specs.Prelude.{◌+◌, ◌≤◌, length};
-ghost use Rattle.cases.specs.Cases.{CaseIs};
 
 mod calls;
 mod counters;
@@ -14,24 +13,15 @@ use cases::lists::{Case, Cases};
 use cases::tallies::{Tally, counted, print};
 
 // Replays a case, if it is one of the service.
-fn replay_case(
-    service: u8,
-    list: &[u8],
-    c: Case,
-    row: &[usize; 24],
-    out: &mut [u8],
-    work: &mut [u32],
-    t: Tally,
-) -> Tally
-    requires case_is { CaseIs (length list.now) c.start c }
-    requires cases_le_start { (t.cases ≤ c.start) × (t.differ ≤ t.cases) }
+fn replay_case(service: u8, c: &Case<'_>, out: &mut [u8], work: &mut [u32], t: Tally) -> Tally
+    requires { (t.cases ≤ c.now.parts.start) × (t.differ ≤ t.cases) }
     ensures { (result.cases ≤ t.cases + 1) × (result.differ ≤ result.cases) }
 {
-    if list[c.start] != service {
+    if c.letter() != service {
         return t;
     }
-    let agrees = case_agrees(list, c, row, out, work);
-    counted(t, list, c.start, c.end, agrees)
+    let agrees = case_agrees(c, out, work);
+    counted(t, c.header(), agrees)
 }
 
 // Replays the cases of a service, named by its first letter, in their order, and prints what became of them.
@@ -40,8 +30,8 @@ fn replay(service: u8, name: &[u8], list: &[u8], out: &mut [u8], work: &mut [u32
         cases: 0,
         differ: 0,
     };
-    for (c, row) in Cases::of(list) {
-        t = replay_case(service, list, c, &row, out, work, t);
+    for c in Cases::of(list) {
+        t = replay_case(service, &c, out, work, t);
     }
     print(name, t);
 }
