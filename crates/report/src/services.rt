@@ -16,7 +16,7 @@ use work::work::clear;
 use writers::writer::Writer;
 
 // Measures the report on an empty buffer, and writes it where it fits.
-fn write_report(
+pub fn write_report(
     out: &mut [u8],
     graph: &Graph,
     t: Totals,
