@@ -1,6 +1,5 @@
-// The order of the nodes, by length or by rank: a stable merge sort of their numbers.
+// The order of the nodes, by length or by rank: their numbers, sorted in place.
 #![tactic(auto)]
 
-pub mod merging;
 pub mod order;
 pub mod ranking;
