@@ -2,10 +2,12 @@
 ghost use Rattle.std.specs.Prelude.{◌+◌, ◌<◌};
 ghost use Rattle.scan.specs.Places.{Inside};
 ghost use Rattle.normalize_tables.specs.Layout.{Source};
-ghost use Rattle.link_ends.specs.LinkEnds.{Relinkable, GoneIs, EndsIs, EndsSettled, AllEnds};
+ghost use Rattle.link_ends.specs.LinkEnds.{GoneIs, EndsIs};
+ghost use Rattle.link_ends.specs.Relinkers.{SettlesEnds, SettlesAllEnds};
 
+use crate::relinker::Relinker;
 use new_ids::ids::find_node;
-use normalize_tables::layout::{Area, Layout};
+use normalize_tables::layout::Layout;
 use normalize_tables::new_graph::NewGraph;
 use normalize_tables::news::News;
 use normalize_tables::rows::{Ends, put_ends};
@@ -49,25 +51,25 @@ pub fn ends_of(graph: &NewGraph, l: LinkWords) -> Ends
     Ends { from, to, gone }
 }
 
-// Puts the words of link `i`; answers whether it is removed. What is written passes by itself, here and in crate relink, as in crate fold.
-pub fn settle_ends(text: &[u8], work: &mut [u32], a: Area, i: LinkNo) -> bool
-    requires { Relinkable text.now work.old a.b a.n a.g a.m × (i.0 < a.n.links) }
-    ensures { EndsSettled text.now work.old work.new a.b a.n a.g a.m i.0 result }
+// Puts the words of link `i`; answers whether it is removed.
+pub fn settle_ends(links: &mut Relinker, i: LinkNo) -> bool
+    requires { i.0 < links.old.a.n.links }
+    ensures { SettlesEnds links.old i.0 result links.new }
 {
-    let graph = NewGraph { text, work, a };
+    let g = links.a.g;
+    let graph = links.graph();
     let e = ends_of(&graph, graph.link(i));
-    put_ends(work, a.g, i, e);
+    put_ends(links.work, g, i, e);
     e.gone
 }
 
 // Puts the words of all links; answers how many are removed.
-pub fn put_all_ends(text: &[u8], work: &mut [u32], a: Area) -> usize
-    requires { Relinkable text.now work.old a.b a.n a.g a.m }
-    ensures { AllEnds text.now work.old work.new a.b a.n a.g a.m result }
+pub fn put_all_ends(links: &mut Relinker) -> usize
+    ensures { SettlesAllEnds links.old result links.new }
 {
     let mut removed = 0;
-    for i in 0..a.n.links {
-        removed += usize::from(settle_ends(text, work, a, LinkNo(i as u32)));
+    for i in 0..links.a.n.links {
+        removed += usize::from(settle_ends(links, LinkNo(i as u32)));
     }
     removed
 }

@@ -2,3 +2,4 @@
 #![tactic(auto)]
 
 pub mod ends;
+pub mod relinker;

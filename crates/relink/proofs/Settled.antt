@@ -128,3 +128,18 @@ module _ {text w v : List ℕ} {b : Bases} {n : Counts} {g : Layout} {m : Made} 
               let added = outside_less g.added (g.added + n.steps) o.0 (omega arith) (omega arith) in
               ((ends, tt), (added, tt)))));
         }
+
+-- where the work area comes back from a relinker
+module _ {text w v u x : List ℕ} {b : Bases} {n : Counts} {g : Layout} {m : Made} {removed all : ℕ} {t : Tally} (s : Relinkable text w b n g m) (a : AllEnds text w v b n g m removed)
+    (c : PathsAdded text v u b n g m t) (e : all ≡ count is_self_link (links_to text x b n.links)) (z : x ≡ u) where
+  same_all : all ≡ count is_self_link (links_to text u b n.links)
+  same_all = rw z at e
+
+  pub removed_given : removed ≤ all
+  removed_given = settle_removed s a c same_all
+
+  pub fits_given : all - removed + t.loops < 18446744073709551616
+  fits_given = settle_fits s a c same_all
+
+  pub settled_given : SettledIs text w x b n g m (record { added = t.added; removed = removed; loops = all - removed + t.loops })
+  settled_given = rw z (settled s a c same_all)

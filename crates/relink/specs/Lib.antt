@@ -1,2 +1,3 @@
 -- What the contracts of the links say.
 pub mod Relinking
+pub mod Relinkers

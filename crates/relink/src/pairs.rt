@@ -1,12 +1,11 @@
 // Links for the adjacent pairs of the new paths that have none (document 01, "Folding", rule 6).
 ghost use Rattle.std.specs.Prelude.{◌≡◌, ◌+◌, ◌-◌, ◌≤◌, ◌<◌, length, set};
-ghost use Rattle.relink.specs.Relinking.{AddedRows, with_link, PairAdded, PathAdded, PathsAdded};
-ghost use Rattle.link_ends.specs.LinkEnds.{Relinkable};
+ghost use Rattle.relink.specs.Relinking.{AddedRows, with_link};
+ghost use Rattle.relink.specs.Relinkers.{AddsPair, AddsPath, AddsPaths};
 
 use crate::lookup::{find_link, pair_at};
-use normalize_tables::layout::{Area, Layout};
-use normalize_tables::new_graph::NewGraph;
-use normalize_tables::rows::new_path_at;
+use link_ends::relinker::Relinker;
+use normalize_tables::layout::Layout;
 use tables::entry::PathNo;
 use tables::tables::Counts;
 
@@ -45,42 +44,42 @@ fn put_link(work: &mut [u32], n: Counts, g: Layout, s: Tally, step: usize, same:
 }
 
 // Adds the link of new step `step` and the step behind it, where there is none.
-#[tactic(auto, using(crate::proofs::Adding::pair_there))]
-pub fn add_pair(text: &[u8], work: &mut [u32], a: Area, s: Tally, step: usize) -> Tally
-    requires relinkable { Relinkable text.now work.old a.b a.n a.g a.m × AddedRows work.old a.n a.g a.m s.added }
-    requires step_bound { (step + 1 < a.m.steps) × (s.added < a.n.steps) × (s.loops ≤ s.added) }
-    ensures { PairAdded text.now work.old work.new a.b a.n a.g a.m s step result }
+#[tactic(auto, using(crate::proofs::Relinkers::passed_there))]
+pub fn add_pair(links: &mut Relinker, s: Tally, step: usize) -> Tally
+    requires rows { AddedRows links.old.work.now links.old.a.n links.old.a.g links.old.a.m s.added }
+    requires step_bound { (step + 1 < links.old.a.m.steps) × (s.added < links.old.a.n.steps) × (s.loops ≤ s.added) }
+    ensures { AddsPair links.old s step result links.new }
 {
-    let graph = NewGraph { text, work, a };
+    let a = links.a;
+    let graph = links.graph();
     let p = pair_at(&graph, step);
     if find_link(&graph, s.added, p) {
         return s;
     }
-    put_link(work, a.n, a.g, s, step, p.first.node == p.second.node)
+    put_link(links.work, a.n, a.g, s, step, p.first.node == p.second.node)
 }
 
 // Adds the links of a new path, whose steps are those from `first` up to `end`.
-pub fn add_path(text: &[u8], work: &mut [u32], a: Area, s: Tally, first: usize, end: usize) -> Tally
-    requires relinkable { Relinkable text.now work.old a.b a.n a.g a.m × AddedRows work.old a.n a.g a.m s.added }
-    requires first_le_end { (first ≤ end) × (end ≤ a.m.steps) × (s.added + (end - first) ≤ a.n.steps) × (s.loops ≤ s.added) }
-    ensures { PathAdded text.now work.old work.new a.b a.n a.g a.m s first end result }
+pub fn add_path(links: &mut Relinker, s: Tally, first: usize, end: usize) -> Tally
+    requires rows { AddedRows links.old.work.now links.old.a.n links.old.a.g links.old.a.m s.added }
+    requires first_le_end { (first ≤ end) × (end ≤ links.old.a.m.steps) × (s.added + (end - first) ≤ links.old.a.n.steps) × (s.loops ≤ s.added) }
+    ensures { AddsPath links.old s first end result links.new }
 {
     let mut now = s;
     for k in first + 1..end {
-        now = add_pair(text, work, a, now, k - 1);
+        now = add_pair(links, now, k - 1);
     }
     now
 }
 
 // Adds the links of all new paths.
-pub fn add_paths(text: &[u8], work: &mut [u32], a: Area) -> Tally
-    requires { Relinkable text.now work.old a.b a.n a.g a.m }
-    ensures { PathsAdded text.now work.old work.new a.b a.n a.g a.m result }
+pub fn add_paths(links: &mut Relinker) -> Tally
+    ensures { AddsPaths links.old result links.new }
 {
     let mut s = Tally { added: 0, loops: 0 };
-    for p in 0..a.n.paths {
-        let path = new_path_at(work, a, PathNo(p as u32));
-        s = add_path(text, work, a, s, path.first, path.end);
+    for p in 0..links.a.n.paths {
+        let path = links.graph().new_path(PathNo(p as u32));
+        s = add_path(links, s, path.first, path.end);
     }
     s
 }

@@ -4,6 +4,7 @@ ghost use Rattle.link_ends.specs.LinkEnds.{Relinkable};
 
 use crate::pairs::add_paths;
 use link_ends::ends::put_all_ends;
+use link_ends::relinker::Relinker;
 use normalize_tables::layout::Area;
 use runs::counts::self_links;
 use tables::graph::Graph;
@@ -21,8 +22,9 @@ pub fn settle_links(text: &[u8], work: &mut [u32], a: Area) -> Links
     requires { Relinkable text.now work.old a.b a.n a.g a.m }
     ensures { SettledIs text.now work.old work.new a.b a.n a.g a.m result }
 {
-    let removed = put_all_ends(text, work, a);
-    let tally = add_paths(text, work, a);
+    let mut links = Relinker { text, work, a };
+    let removed = put_all_ends(&mut links);
+    let tally = add_paths(&mut links);
     let graph = Graph {
         text,
         work,

@@ -1,13 +1,25 @@
-use borrow.Author.Rules.{rules}
-use Rattle.relink.proofs.Adding.{passing_start, passing_room, passing_more}
+use native.Mathlib.Omega.{arith}
+use Rattle.link_ends.proofs.Relinkers.{same_none, same_then}
+use Rattle.relink.proofs.Adding.{passing_start, passing_room, passing_more, passing_end}
+use Rattle.relink.proofs.Relinkers.{path_in}
 use Rattle.relink.proofs.pairs.add_paths.Goals as goal
 
 pub loop-p-init : goal.loop-p-init
-loop-p-init c = search passing_start
+loop-p-init c = (same_none, passing_start c.args.links.now.relinkable)
 
-pub add_path-s-requires : goal.add_path-s-requires
-add_path-s-requires c = record { relinkable = search rules; first_le_end = (search rules, search rules, search passing_room, search rules) }
+pub add_path-s-requires-clause-first_le_end : goal.add_path-s-requires-clause-first_le_end
+add_path-s-requires-clause-first_le_end c =
+    let s = c.loop-p.invariant.0 in
+    let q = c.loop-p.invariant.1 in
+    let path = path_in c.graph.ensures c.new_path-path.ensures in
+    (path.low, path.high, rw s.area (passing_room q c.loop-p-test.true (rw s.area at path)), omega (arith, q.grows.loops))
 
 pub loop-p-preserved : goal.loop-p-preserved
 loop-p-preserved c =
-    passing_more c.loop-p.invariant c.loop-p-test.true c.new_path_at-path.ensures c.add_path-s.ensures
+    let s = c.loop-p.invariant.0 in
+    let q = c.add_path-s.ensures in
+    let path = rw s.area at (path_in c.graph.ensures c.new_path-path.ensures) in
+    (same_then s q.same, passing_more c.loop-p.invariant.1 c.loop-p-test.true path (rw (s.text, s.area) at q.adds))
+
+pub returns : goal.returns
+returns c = record { same = c.loop-p.invariant.0; adds = passing_end c.loop-p.invariant.1 c.loop-p-test.false }
