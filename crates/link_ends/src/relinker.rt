@@ -16,11 +16,11 @@ pub struct Relinker<'a> {
 }
 
 impl<'a> Relinker<'a> {
-    ghost use Rattle.link_ends.specs.Relinkers.{GraphOf};
+    ghost use Rattle.link_ends.specs.Relinkers.{NewGraphOf};
 
     // The graph whose links are settled.
     pub fn graph(&self) -> NewGraph<'_>
-        ensures { GraphOf self.now result }
+        ensures { NewGraphOf self.now result }
     {
         NewGraph {
             text: self.text,

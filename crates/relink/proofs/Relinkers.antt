@@ -9,7 +9,7 @@ use Rattle.normalize_tables.specs.declared.new_graph.NewGraph.{NewGraph}
 use Rattle.normalize_tables.specs.declared.rows.NewPathWords.{NewPathWords}
 use Rattle.normalize_tables.specs.NewByNumber.{NewPathIs}
 use Rattle.link_ends.specs.declared.relinker.Relinker.{Relinker}
-use Rattle.link_ends.specs.Relinkers.{GraphOf}
+use Rattle.link_ends.specs.Relinkers.{NewGraphOf}
 use Rattle.link_ends.proofs.Relinkers.{same_none}
 use Rattle.relink.specs.declared.lookup.Pair.{Pair}
 use Rattle.relink.specs.declared.pairs.Tally.{Tally}
@@ -18,7 +18,7 @@ use Rattle.relink.specs.Relinkers.{AddsPair}
 use Rattle.relink.proofs.Adding.{pair_there, pair_added}
 
 -- a graph whose links are settled reads what the relinker has
-module _ {l : Relinker} {g : NewGraph} (o : GraphOf l g) where
+module _ {l : Relinker} {g : NewGraph} (o : NewGraphOf l g) where
   pub path_in : {p : ℕ} {r : NewPathWords} → NewPathIs g.work.now g.a.n g.a.g g.a.m p r → NewPathIs l.work.now l.a.n l.a.g l.a.m p r
   path_in q = rw (o.work, o.area) at q
 
