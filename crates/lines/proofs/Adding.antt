@@ -251,8 +251,8 @@ kind_of_word kind.W = refl
 -- the field that holds the steps
 module _ {text work : List ℕ} {b : Bases} {n : Counts} {line : Place} {j : ℕ} {kind : PathKind} {f : Option Place} (h : FieldIs text line j f) (c : j ≡ column_of (kind_in kind)) where
   -- too few fields
-  pub path_missing : {work' : List ℕ} {k : Reason} → f ≡ None → number_of k ≡ short_of (kind_in kind) → PathStepsAre text work work' b n line.start line.size kind (Err k)
-  path_missing e k = record { says = record { read = path_short (kind_in kind) (rw c at (few_fields h e)) ∙ rw k } }
+  pub path_missing : {k : Reason} → f ≡ None → number_of k ≡ short_of (kind_in kind) → PathStepsAre text work work b n line.start line.size kind (Err k)
+  path_missing e k = record { says = record { read = path_short (kind_in kind) (rw c at (few_fields h e)) ∙ rw k; long = refl; only = only_none } }
 
   module _ {field : Place} (e : f ≡ Some field) (s : SortIs text line.start line.size (sort.Path kind)) (y : Ready text work b n line.start line.size) where
     steps_short : field.size + 3 ≤ line.size
@@ -276,7 +276,12 @@ module _ {text work : List ℕ} {b : Bases} {n : Counts} {line : Place} {j : ℕ
               long = q.long;
               only = q.only;
             }
-        go (Err k) q = record { read = path_refused (kind_in kind) (rw c at (found_at h e)) q }
+        go (Err k) q =
+            record {
+              read = path_refused (kind_in kind) (rw c at (found_at h e)) q.read;
+              long = q.long;
+              only = only_wider _ q.only (λ i o. (outside_less (b.steps + 3 * n.steps) (b.steps + 3 * n.steps + 3 * field.size) o.0 (omega arith) (omega (arith, steps_short)), tt));
+            }
 
 -- what the answer says, by its cases
 module _ {text work middle : List ℕ} {b : Bases} {n : Counts} {start size : ℕ} {kind : PathKind} {c : Result ℕ Reason} (h : PathStepsAre text work middle b n start size kind c) where

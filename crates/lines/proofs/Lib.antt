@@ -3,3 +3,4 @@ pub mod LineSorts
 pub mod LineFields
 pub mod Room
 pub mod Adding
+pub mod NewLines

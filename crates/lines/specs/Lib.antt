@@ -6,3 +6,4 @@ pub mod LinkLines
 pub mod PathLines
 pub mod Room
 pub mod Lines
+pub mod NewLines

@@ -27,14 +27,16 @@ pub record PathHolds (text work work' : List ℕ) (b : Bases) (n : Counts) (star
   pub long : length work' ≡ length work
   pub only : Only (span (b.steps + 3 * n.steps) (b.steps + 3 * n.steps + 3 * m) ∷ []) work work'
 
--- The line is refused with this number.
-pub record PathRefused (text : List ℕ) (start size : ℕ) (kind : PathKind) (k : ℕ) : Type 0 where
+-- The line is refused with this number; only words behind the rows of the step table changed.
+pub record PathRefused (text work work' : List ℕ) (b : Bases) (n : Counts) (start size : ℕ) (kind : PathKind) (k : ℕ) : Type 0 where
   pub read : parse_path (kind_in kind) (fields (part_at text start size)) ≡ refused k
+  pub long : length work' ≡ length work
+  pub only : Only (span (b.steps + 3 * n.steps) (b.steps + 3 * n.steps + 3 * size) ∷ []) work work'
 
 -- by the cases of the answer
 abbrev pub PathSays : List ℕ → List ℕ → List ℕ → Bases → Counts → ℕ → ℕ → PathKind → Result ℕ Reason → Type 0
 PathSays text work work' b n start size kind (Ok m) = PathHolds text work work' b n start size kind m
-PathSays text work work' b n start size kind (Err k) = PathRefused text start size kind (number_of k)
+PathSays text work work' b n start size kind (Err k) = PathRefused text work work' b n start size kind (number_of k)
 
 -- What is said of a P or W line whose steps were read.
 pub record PathStepsAre (text work work' : List ℕ) (b : Bases) (n : Counts) (start size : ℕ) (kind : PathKind) (r : Result ℕ Reason) : Type 0 where

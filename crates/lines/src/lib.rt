@@ -3,6 +3,7 @@
 
 pub mod columns;
 pub mod links;
+pub mod new_line;
 pub mod paths;
 pub mod segments;
 pub mod sort;

@@ -1,20 +1,20 @@
 // L lines: checked, and put into the link table.
 ghost use Rattle.std.specs.Prelude.{◌≡◌, ◌+◌, ◌≤◌, length};
 ghost use Rattle.lines.specs.declared.sort.Sort.TheVariants as Sort;
-ghost use Rattle.lines.specs.Sorts.{SortIs};
 ghost use Rattle.lines.specs.Columns.{HasColumn};
-ghost use Rattle.lines.specs.Lines.{Ready, AddedIs};
+ghost use Rattle.lines.specs.NewLines.{IsOf, AddsRecord};
 ghost use Rattle.lines.specs.LinkLines.{SignIs, EndIs, LinkFieldsAre};
 ghost use Rattle.refusals.specs.Reasons.{number_of};
 ghost use Rattle.scan.specs.Places.{Inside};
 
 use crate::columns::column;
+use crate::new_line::NewLine;
 use refusals::reason::Reason;
 use scan::orientation::Orientation;
 use scan::places::{Place, field_at};
 use tables::entry::{LinkNo, Record};
 use tables::rows::{LinkWords, put_link};
-use tables::tables::{Bases, Counts, one_more};
+use tables::tables::{Counts, one_more};
 
 // The orientation that a field says: a single + or -. It is refused with one reason where it is empty, and else with the other.
 pub fn parse_orientation(s: &[u8], empty: Reason, other: Reason) -> Result<Orientation, Reason>
@@ -70,19 +70,12 @@ pub fn link_fields(text: &[u8], line: Place) -> Result<LinkWords, Reason>
 }
 
 // Adds an L line: its record, and how many rows there are with it.
-pub fn add_link(
-    text: &[u8],
-    work: &mut [u32],
-    b: Bases,
-    n: Counts,
-    line: Place,
-) -> Result<(Record, Counts), Reason>
-    requires ready { Ready text.now work.old b n line.start line.size }
-    requires sort_is { SortIs text.now line.start line.size Sort.Link }
-    ensures { AddedIs text.now work.old work.new b n line.start line.size result }
+pub fn add_link(l: &mut NewLine) -> Result<(Record, Counts), Reason>
+    requires { IsOf l.old Sort.Link }
+    ensures { AddsRecord l.old result l.new }
 {
-    let row = link_fields(text, line)?;
-    let i = LinkNo(n.links as u32);
-    put_link(work, b, i, row);
-    Ok((Record::Link(i), one_more(n, 0, 1, 0, 0)))
+    let row = link_fields(l.text, l.line)?;
+    let i = LinkNo(l.n.links as u32);
+    put_link(l.work, l.b, i, row);
+    Ok((Record::Link(i), one_more(l.n, 0, 1, 0, 0)))
 }

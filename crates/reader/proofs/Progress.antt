@@ -349,5 +349,9 @@ module _ {text first : List ℕ} {b : Bases} where
                   ));
             }
 
+-- the work area, as a line that was read gives it back
+pub progress_back : {text first work work' : List ℕ} {b : Bases} {s : Lines} {n : Counts} → Progress text first work b s n → work' ≡ work → Progress text first work' b s n
+progress_back p e = rw e p
+
 -- what the reading pass ends by
 pub ruleset progress = (progress_refused, progress_end)

@@ -1,39 +1,32 @@
 // The reading pass: every line of a text, put into the tables.
-ghost use Rattle.lines.specs.Lines.{Ready, AddedIs, LineRead};
+ghost use Rattle.lines.specs.NewLines.{AddsRecord, ReadsLine};
 ghost use Rattle.reader.specs.Outcomes.{Roomy, OutcomeIs};
 
 use lines::links::add_link;
+use lines::new_line::NewLine;
 use lines::paths::add_path;
 use lines::segments::add_segment;
 use lines::sort::{Sort, sort_of};
 use refusals::reason::Reason;
 use refusals::refusal::Refusal;
 use scan::lines::Lines;
-use scan::places::Place;
 use tables::entry::{RawLine, Record};
 use tables::rows::put_line;
 use tables::tables::{Bases, Counts, one_more};
 
 // Adds a line: its record, and how many rows there are with it.
-pub fn add_record(
-    text: &[u8],
-    work: &mut [u32],
-    b: Bases,
-    n: Counts,
-    line: Place,
-) -> Result<(Record, Counts), Reason>
-    requires { Ready text.now work.old b n line.start line.size }
-    ensures { AddedIs text.now work.old work.new b n line.start line.size result }
+pub fn add_record(l: &mut NewLine) -> Result<(Record, Counts), Reason>
+    ensures { AddsRecord l.old result l.new }
 {
     let raw = RawLine {
-        start: line.start as u32,
-        length: line.size as u32,
+        start: l.line.start as u32,
+        length: l.line.size as u32,
     };
-    let more = one_more(n, 0, 0, 0, 0);
-    match sort_of(text, line) {
-        Sort::Segment => add_segment(text, work, b, n, line),
-        Sort::Link => add_link(text, work, b, n, line),
-        Sort::Path(kind) => add_path(text, work, b, n, line, kind),
+    let more = one_more(l.n, 0, 0, 0, 0);
+    match sort_of(l.text, l.line) {
+        Sort::Segment => add_segment(l),
+        Sort::Link => add_link(l),
+        Sort::Path(kind) => add_path(l, kind),
         Sort::Blank => Ok((Record::Blank(raw), more)),
         Sort::Comment => Ok((Record::Comment(raw), more)),
         Sort::Header => Ok((Record::Header(raw), more)),
@@ -42,18 +35,11 @@ pub fn add_record(
 }
 
 // Reads a line: its record, and its entry.
-pub fn read_line(
-    text: &[u8],
-    work: &mut [u32],
-    b: Bases,
-    n: Counts,
-    line: Place,
-) -> Result<(Record, Counts), Reason>
-    requires { Ready text.now work.old b n line.start line.size }
-    ensures { LineRead text.now work.old work.new b n line.start line.size result }
+pub fn read_line(l: &mut NewLine) -> Result<(Record, Counts), Reason>
+    ensures { ReadsLine l.old result l.new }
 {
-    let (record, m) = add_record(text, work, b, n, line)?;
-    put_line(work, b, n.lines, record);
+    let (record, m) = add_record(l)?;
+    put_line(l.work, l.b, l.n.lines, record);
     Ok((record, m))
 }
 
@@ -71,7 +57,14 @@ pub fn read_lines(text: &[u8], work: &mut [u32], b: Bases) -> Result<Counts, Ref
         steps: 0,
     };
     for line in Lines::of(text) {
-        match read_line(text, work, b, n, line) {
+        let mut l = NewLine {
+            text,
+            work,
+            b,
+            n,
+            line,
+        };
+        match read_line(&mut l) {
             Err(reason) => return Err(Refusal::on_line(reason, n.lines + 1)),
             Ok((_, m)) => n = m,
         }

@@ -79,18 +79,18 @@ last_cut text start size h n =
     part_slice start size text ∙ last_byte_split text start (start + size) (omega arith) h ∙ rw (e, part_slice start (size - 1) text)
 
 module _ {text : List ℕ} {item : Place} (inside : item.start + item.size ≤ length text) (some : item.size ≡ 0 → ⊥) where
-  module _ {work work' : List ℕ} {base n : ℕ} where
+  module _ {work : List ℕ} {base n : ℕ} where
     -- its last byte is no orientation, or there is no name before it
-    pub item_no_mark : {r : Option Orientation} → OrientationIs (get_or text (item.start + (item.size - 1)) 0) r → r ≡ None → ItemIs text work work' base n item (Err BadStep)
+    pub item_no_mark : {r : Option Orientation} → OrientationIs (get_or text (item.start + (item.size - 1)) 0) r → r ≡ None → ItemIs text work work base n item (Err BadStep)
     unfolding parse_items is_step part_at
-    item_no_mark e f = record { says = record { read = λ more. rw (last_cut text item.start item.size inside some, snoc_not_empty, last_snoc, (rw f at e.says)) } }
+    item_no_mark e f = record { says = record { read = λ more. rw (last_cut text item.start item.size inside some, snoc_not_empty, last_snoc, (rw f at e.says)); same = refl } }
 
-    pub item_no_name : item.size - 1 ≡ 0 → ItemIs text work work' base n item (Err BadStep)
+    pub item_no_name : item.size - 1 ≡ 0 → ItemIs text work work base n item (Err BadStep)
     unfolding parse_items is_step part_at is_empty part
-    item_no_name e = record { says = record { read = λ more. rw (last_cut text item.start item.size inside some, snoc_not_empty, drop_snoc, e, and-false) } }
+    item_no_name e = record { says = record { read = λ more. rw (last_cut text item.start item.size inside some, snoc_not_empty, drop_snoc, e, and-false); same = refl } }
 
     -- a step is put into the table
-    pub item_put : {r : Option Orientation} {o : Orientation} → OrientationIs (get_or text (item.start + (item.size - 1)) 0) r → r ≡ Some o → (item.size - 1 ≡ 0 → ⊥) →
+    pub item_put : {work' : List ℕ} {r : Option Orientation} {o : Orientation} → OrientationIs (get_or text (item.start + (item.size - 1)) 0) r → r ≡ Some o → (item.size - 1 ≡ 0 → ⊥) →
         base + 3 * n + 3 ≤ length work → work' ≡ sets work (base + 3 * n) (item.start ∷ (item.size - 1) ∷ sign_of o ∷ []) → ItemIs text work work' base n item (Ok (n + 1))
     unfolding parse_items is_step item_steps step_of add_steps part_at
     item_put {o = o} is f e h q =

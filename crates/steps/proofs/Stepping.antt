@@ -15,7 +15,7 @@ use Rattle.scan.specs.Parts.{parts_left, AllParts, PartGiven}
 use Rattle.work.specs.Rows.{rows_at, EachRow, span, Only}
 use Rattle.tables.specs.Steps.{steps_at, StepRow}
 use Rattle.steps.specs.StepFields.{add_steps, ItemIs, StepsIs}
-use Rattle.work.proofs.Rows.{only_none, only_then, outside_less, each_none}
+use Rattle.work.proofs.Rows.{only_none, only_then, only_wider, outside_less, each_none}
 use Rattle.steps.proofs.Items.{add_none}
 
 -- steps put before steps
@@ -82,7 +82,17 @@ module _ {text first : List ℕ} {base : ℕ} {field : Place} where
 
         pub stepping_bad : {k : Reason} → r ≡ Err k → StepsIs text first work' base field.size (parse_items (split 44 field.start (part field.start field.size text))) r
         unfolding add_steps then
-        stepping_bad e = let b = rw e at i.says in rw e (record { says = h.whole ∙ rw (read, b.read) })
+        stepping_bad e =
+            let b = rw e at i.says in
+            rw (e, b.same)
+            (record {
+              says =
+                  record {
+                    read = h.whole ∙ rw (read, b.read);
+                    long = h.long;
+                    only = only_wider _ h.only (λ i o. (outside_less base (base + 3 * n) o.0 (omega arith) (omega (arith, h.few, h.end, s.inside.0)), tt));
+                  };
+            })
 
         pub stepping_more : {m : ℕ} → r ≡ Ok m → Stepping text first work' base field.start field.size t m
         stepping_more {m} e =

@@ -26,7 +26,7 @@ use Rattle.gfa_spec.proofs.Parts.{length_part}
 use Rattle.work.specs.Rows.{rows_at, EachRow, span, Only, Small}
 use Rattle.tables.specs.Steps.{steps_at, StepRow}
 use Rattle.steps.specs.StepFields.{add_steps, StepsIs}
-use Rattle.work.proofs.Rows.{only_none, only_put, only_kept, only_then, outside_less, each_none, each_more}
+use Rattle.work.proofs.Rows.{only_none, only_put, only_kept, only_then, only_wider, outside_less, each_none, each_more}
 use Rattle.tables.proofs.TableRows.{steps_kept, step_rows_kept, step_put, step_row_put}
 use Rattle.steps.proofs.Items.{add_none, steps_snoc}
 use Rattle.steps.proofs.Stepping.{add_add}
@@ -82,6 +82,10 @@ pub record Walking (text first work : List ℕ) (base start size : ℕ) (s : Wal
   pub rows : EachRow (StepRow text) 3 work base n
   pub only : Only (span base (base + 3 * n) ∷ []) first work
 
+-- only rows that the field has room for changed
+walking_only : {text first work : List ℕ} {base start size : ℕ} {s : Walk} {n : ℕ} → Walking text first work base start size s n → Only (span base (base + 3 * size) ∷ []) first work
+walking_only {base = base} {s = s} {n = n} h = only_wider _ h.only (λ i o. (outside_less base (base + 3 * n) o.0 (omega arith) (omega (arith, h.few, h.end, s.inside.0)), tt))
+
 module _ {text first : List ℕ} {base : ℕ} {field : Place} where
   pub walking_start : {s : Walk} → field.start + field.size ≤ length text → length text ≤ 1048576 → base + 3 * field.size + 3 ≤ length first → AllSteps text field s →
       Walking text first first base field.start field.size s 0
@@ -104,7 +108,7 @@ module _ {text first : List ℕ} {base : ℕ} {field : Place} where
     -- a walk without a mark, and the end of another
     pub walking_none : StepGiven s None t → n ≡ 0 → StepsIs text first work base field.size (non_empty (walk field.start (part field.start field.size text)).steps) (Err NoStep)
     unfolding rest_behind non_empty add_steps then
-    walking_none g e = record { says = h.whole ∙ rw (g.says.0, e) }
+    walking_none g e = record { says = record { read = h.whole ∙ rw (g.says.0, e); long = h.long; only = walking_only h } }
 
     pub walking_end : StepGiven s None t → (n ≡ 0 → ⊥) → StepsIs text first work base field.size (non_empty (walk field.start (part field.start field.size text)).steps) (Ok n)
     unfolding add_steps then
@@ -125,19 +129,19 @@ module _ {text first : List ℕ} {base : ℕ} {field : Place} where
       left = rw (g.says.first, rest_some, h.same)
 
       -- an empty last step, and another empty step
-      pub walking_last : {work' : List ℕ} → w.name.size ≡ 0 → w.name.start ≡ field.start + field.size →
-          StepsIs text first work' base field.size (non_empty (walk field.start (part field.start field.size text)).steps) (Err EmptyLastStep)
+      pub walking_last : w.name.size ≡ 0 → w.name.start ≡ field.start + field.size →
+          StepsIs text first work base field.size (non_empty (walk field.start (part field.start field.size text)).steps) (Err EmptyLastStep)
       unfolding add_steps then part_at part is_empty
       walking_last e f =
           let z = no_steps t.text.now t.at t.end (omega (arith, g.says.on, g.end, h.end, e, f)) in
-          record { says = h.whole ∙ rw (left, z, rest_last (step_of text w) (rw e)) }
+          record { says = record { read = h.whole ∙ rw (left, z, rest_last (step_of text w) (rw e)); long = h.long; only = walking_only h } }
 
-      pub walking_empty : {work' : List ℕ} → w.name.size ≡ 0 → (w.name.start ≡ field.start + field.size → ⊥) →
-          StepsIs text first work' base field.size (non_empty (walk field.start (part field.start field.size text)).steps) (Err EmptyStep)
+      pub walking_empty : w.name.size ≡ 0 → (w.name.start ≡ field.start + field.size → ⊥) →
+          StepsIs text first work base field.size (non_empty (walk field.start (part field.start field.size text)).steps) (Err EmptyStep)
       unfolding add_steps then part_at part is_empty
       walking_empty e f =
           let k : t.at < s.end = omega (arith, g.says.on, g.says.high, h.end, e, f) in
-          record { says = h.whole ∙ rw (left, rest_more (step_of text w) (steps_left t) (g.says.more k) (rw e)) }
+          record { says = record { read = h.whole ∙ rw (left, rest_more (step_of text w) (steps_left t) (g.says.more k) (rw e)); long = h.long; only = walking_only h } }
 
       -- a step with a name is put into the table
       pub walking_room : base + 3 * n + 3 ≤ length work

@@ -20,10 +20,16 @@ pub record StepsPut (text work work' : List ℕ) (base size m : ℕ) (r : Read (
   pub long : length work' ≡ length work
   pub only : Only (span base (base + 3 * m) ∷ []) work work'
 
+-- The steps are refused with this number; only rows of the table changed that the field has room for.
+pub record StepsRefused (work work' : List ℕ) (base size : ℕ) (r : Read (List Step)) (k : ℕ) : Type 0 where
+  pub read : r ≡ refused k
+  pub long : length work' ≡ length work
+  pub only : Only (span base (base + 3 * size) ∷ []) work work'
+
 -- by the cases of the answer
 abbrev pub StepsSay : List ℕ → List ℕ → List ℕ → ℕ → ℕ → Read (List Step) → Result ℕ Reason → Type 0
 StepsSay text work work' base size r (Ok m) = StepsPut text work work' base size m r
-StepsSay text work work' base size r (Err k) = r ≡ refused (number_of k)
+StepsSay text work work' base size r (Err k) = StepsRefused work work' base size r (number_of k)
 
 -- What the answer to a field of steps says; r is what the definitions read there.
 pub record StepsIs (text work work' : List ℕ) (base size : ℕ) (r : Read (List Step)) (c : Result ℕ Reason) : Type 0 where
@@ -39,9 +45,10 @@ add_steps xs r = then r (λ ys. accepted (xs ++ ys))
 unfoldable pub item_steps : Part → List Step
 item_steps item = cond (is_empty item.bytes) [] (step_of item ∷ [])
 
--- The item is refused, whatever follows it.
-pub record ItemBad (text : List ℕ) (start size k : ℕ) : Type 0 where
+-- The item is refused, whatever follows it, and nothing changed.
+pub record ItemBad (text work work' : List ℕ) (start size k : ℕ) : Type 0 where
   pub read : (more : List Part) → parse_items (part_at text start size ∷ more) ≡ refused k
+  pub same : work' ≡ work
 
 -- The item is read, and the table has m steps with it, at most one more for every two bytes; only their rows changed.
 pub record ItemRead (text work work' : List ℕ) (base n start size m : ℕ) : Type 0 where
@@ -57,7 +64,7 @@ pub record ItemRead (text work work' : List ℕ) (base n start size m : ℕ) : T
 -- by the cases of the answer
 abbrev pub ItemSays : List ℕ → List ℕ → List ℕ → ℕ → ℕ → ℕ → ℕ → Result ℕ Reason → Type 0
 ItemSays text work work' base n start size (Ok m) = ItemRead text work work' base n start size m
-ItemSays text work work' base n start size (Err k) = ItemBad text start size (number_of k)
+ItemSays text work work' base n start size (Err k) = ItemBad text work work' start size (number_of k)
 
 -- What the answer to an item says.
 pub record ItemIs (text work work' : List ℕ) (base n : ℕ) (item : Place) (r : Result ℕ Reason) : Type 0 where

@@ -1,21 +1,29 @@
 -- `lines::segments::add_segment` meets its contract. Assumes nothing.
+use mathlib.Core.Path.{refl}
 use Rattle.std.proofs.lemmas.Result.{err_from_is_err_and}
 use Rattle.std.proofs.Common.{sym, ◌∙◌}
 use Rattle.gfa_spec.proofs.Options.{none_is, some_is}
 use Rattle.lines.proofs.Adding.{s_short, s_known, s_added}
+use Rattle.lines.proofs.NewLines.{same_none, ready_segment}
 use Rattle.lines.proofs.segments.add_segment.Goals as goal
 
 pub returns-in_err-row : goal.returns-in_err-row
 returns-in_err-row c =
     let p = err_from_is_err_and c.from_residual.result c.from_residual.ensures.1 in
-    rw (p.1, p.2) (s_short c.requires.sort_is c.segment_fields.ensures c.in_err-row.was)
+    rw (p.1, p.2) (record { same = same_none; added = s_short c.requires c.segment_fields.ensures c.in_err-row.was })
 
 pub returns-then-is_some : goal.returns-then-is_some
 returns-then-is_some c =
-    let f = some_is c.find_segment.result (sym c.is_some.ensures ∙ c.if-is_some.true) in
-    s_known c.requires.sort_is c.segment_fields.ensures c.in_ok-row.was c.find_segment.ensures f.1
+    let f = some_is c.named.result (sym c.is_some.ensures ∙ c.if-is_some.true) in
+    record { same = same_none; added = s_known c.requires c.segment_fields.ensures c.in_ok-row.was c.named.ensures f.1 }
+
+pub invariant_of-l : goal.invariant_of-l
+invariant_of-l c = record { ready = ready_segment c.args.l.now.ready c.in_ok-row.row c.put_segment.ensures }
 
 pub returns : goal.returns
 returns c =
-    let f = none_is c.find_segment.result (sym c.is_some.ensures ∙ c.if-is_some.false) in
-    s_added c.requires.sort_is c.segment_fields.ensures c.in_ok-row.was c.find_segment.ensures f c.requires.ready c.put_segment.ensures c.one_more.ensures
+    let f = none_is c.named.result (sym c.is_some.ensures ∙ c.if-is_some.false) in
+    record {
+      same = record { text = refl; loan = refl; bases = refl; counts = refl; line = refl };
+      added = s_added c.requires c.segment_fields.ensures c.in_ok-row.was c.named.ensures f c.args.l.now.ready c.put_segment.ensures c.one_more.ensures;
+    }
