@@ -10,7 +10,7 @@ use Rattle.lines.specs.Lines.{AddedIs, LineRead}
 use Rattle.lines.specs.PathLines.{PathStepsAre}
 use Rattle.lines.specs.Sorts.{SortIs}
 
--- The line is of this sort.
+-- The line is of this sort: each function asks another.
 abbrev pub IsOf : NewLine → Sort → Type 0
 IsOf l k = SortIs l.text.now l.line.start l.line.size k
 

@@ -24,7 +24,7 @@ abbrev pub Rising : List Node → Type 0
 Rising [] = Unit {0}
 Rising (a ∷ xs) = Each (λ b. a.sequence_len ≤ b.sequence_len) xs × Rising xs
 
--- The m numbers from the word `nums` on are those of rows.
+-- The m numbers from the word `nums` on are those of rows. `Groups` holds it; it is asked where one is made, and of the reader that it calls.
 pub record RowNumbers (work : List ℕ) (table nums m : ℕ) : Type 0 where
   pub room : nums + m ≤ length work
   pub few : m ≤ 2097152

@@ -27,7 +27,7 @@ use Rattle.relink.specs.declared.settle.Links.{Links}
 
 -- ---- pairs and links
 
--- The first `added` words of the added links may be relied on, and there is room for them.
+-- The first `added` words of the added links may be relied on, and there is room for them: of no value alone, since each call has another number.
 pub record AddedRows (work : List ℕ) (n : Counts) (g : Layout) (m : Made) (added : ℕ) : Type 0 where
   pub keys : EachRow (KeyRow m.steps) 1 work g.added added
   pub high : added ≤ n.steps

@@ -4,7 +4,7 @@ ghost use Rattle.scan.specs.Places.{Inside, bytes_in, FirstIs, TrimmedIs, NextLi
 
 use crate::split::Split;
 
-// A part of a text.
+// A part of a text. The text is not in it, since rows of tables hold places; that it is inside is asked where it is used.
 #[derive(Clone, Copy)]
 pub struct Place {
     pub start: usize,

@@ -16,7 +16,7 @@ use Rattle.nodes.specs.declared.nodes.NodeWords.{NodeWords}
 use Rattle.nodes.specs.Counters.{no_counter}
 use Rattle.nodes.specs.Table.{nodes_end, RowPut, marked_of, CountRows, NodeTable}
 
--- The tables of a text stand in the work area: the node table begins behind them.
+-- The tables of a text stand in the work area: the node table begins behind them. Asked where the three passes over them begin.
 pub record Tabled (text work : List ℕ) (b : Bases) (n : Counts) : Type 0 where
   pub readable : Readable text work b n
   pub short : length text ≤ 1048576

@@ -12,7 +12,7 @@ use Rattle.tables.specs.Tables.{Readable}
 use Rattle.nodes.specs.Counters.{counted_of, goes_on, finish, CounterFits}
 use Rattle.nodes.specs.Table.{nodes_end, node_no, counter_no, name_no, NamesInside, CountRows, Differ}
 
--- The counters of the first m nodes fit while so many steps of a path of this number are left.
+-- The counters of the first m nodes fit while so many steps of a path of this number are left: of no value alone, since each call has another number.
 pub record FitRows (left path : ℕ) (work : List ℕ) (table m : ℕ) : Type 0 where
   pub row : (k : ℕ) → k < m → CounterFits left path (counter_no work table k)
 
