@@ -23,7 +23,7 @@ use Rattle.node_lines.specs.declared.buckets.Groups.{Groups}
 use Rattle.node_lines.specs.Groups.{buckets, bucket_of, Rising, RowNumbers, long_of, group_links, GroupIs, Sized, BucketsIs}
 use Rattle.node_lines.specs.GroupsLeft.{GroupsOf, FirstGroup, NoGroup}
 use Rattle.tally.proofs.PathCounting.{sum_last}
-use Rattle.ranks.proofs.NodeNumbers.{nums_snoc, nums_split, nums_cons, nums_none}
+use Rattle.ranks.proofs.Merges.{nums_snoc, nums_split, nums_cons, nums_none}
 use Rattle.node_lines.proofs.Lengths.{buckets_group}
 
 -- ---- a group

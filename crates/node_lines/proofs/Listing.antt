@@ -13,7 +13,7 @@ use Rattle.writers.proofs.Writing.{as_piece, puts_nothing, ◌▷◌}
 use Rattle.writers.proofs.Joining.{join_last, ended_append}
 use Rattle.report_spec.specs.Lines.{node_lines}
 use Rattle.ranks.specs.Ranking.{nums_at}
-use Rattle.ranks.proofs.NodeNumbers.{nums_snoc}
+use Rattle.ranks.proofs.Merges.{nums_snoc}
 use Rattle.node_lines.specs.NodeLines.{node_in, Printable, listed, Listed}
 
 -- the node of number i can be written

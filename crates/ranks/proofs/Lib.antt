@@ -1,5 +1,5 @@
 -- Laws of the order, in reading order.
 pub mod Sorting
 pub mod Ranks
-pub mod NodeNumbers
+pub mod Merges
 pub mod Numbering

@@ -1,5 +1,6 @@
-// The order of the nodes, by length or by rank: their numbers, sorted in place.
+// The order of the nodes, by length or by rank: a stable merge sort of their numbers.
 #![tactic(auto)]
 
+pub mod merging;
 pub mod order;
 pub mod ranking;

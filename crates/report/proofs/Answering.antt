@@ -31,7 +31,7 @@ use Rattle.node_lines.specs.Groups.{buckets, RowNumbers, Sized, BucketsIs}
 use Rattle.report.specs.Totals.{lengths_of, ranks_of, areas_of, Ranked, total_lines, report_from, Reportable}
 use Rattle.ranks.proofs.Sorting.{sort_each}
 use Rattle.nodes.proofs.Pairs.{bits_small}
-use Rattle.ranks.proofs.NodeNumbers.{nums_below}
+use Rattle.ranks.proofs.Merges.{nums_below}
 use Rattle.node_lines.proofs.Lengths.{sorted_rising}
 use Rattle.ranks.proofs.Numbering.{each_up}
 use Rattle.report.proofs.Reported.{number_small, EntriesAre, listed_by_length}

@@ -19,7 +19,7 @@ use Rattle.tally.proofs.Linking.{tabled_stands, nodes_stand}
 use Rattle.ranks.specs.declared.ranking.NodeKey.{NodeKey}
 use Rattle.ranks.specs.declared.ranking.Order.TheVariants.{Lengths, Ranks}
 use Rattle.ranks.specs.Ranking.{node_key, KeysAre, OrderedIs}
-use Rattle.ranks.proofs.NodeNumbers.{nums_kept, key_stands, keys_stand}
+use Rattle.ranks.proofs.Merges.{nums_kept, key_stands, keys_stand}
 use Rattle.report.specs.declared.totals.Areas.{Areas}
 use Rattle.report.specs.Totals.{lengths_of, ranks_of, areas_of, Orderable, OrderedBoth, Ranked}
 

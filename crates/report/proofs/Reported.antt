@@ -48,7 +48,7 @@ use Rattle.ranks.specs.Sorting.{sort_by}
 use Rattle.ranks.proofs.Sorting.{sort_map}
 use Rattle.ranks.proofs.Ranks.{sort_nodes_by}
 use Rattle.node_lines.proofs.Lengths.{by_length, buckets_sorted}
-use Rattle.ranks.proofs.NodeNumbers.{nums_split}
+use Rattle.ranks.proofs.Merges.{nums_split}
 use Rattle.writers.proofs.Joining.{ended_append}
 use Rattle.ranks.proofs.Numbering.{each_up}
 use Rattle.nodes.proofs.Pairs.{each, both as both_of, of_each}

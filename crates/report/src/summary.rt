@@ -31,7 +31,7 @@ pub fn put_report(w: &mut Writer, graph: &Graph, t: Totals, m: usize, top: usize
     requires { Reportable graph.now.text.now graph.now.work.now graph.now.b graph.now.n m }
     ensures { Puts w.old (report_from graph.now.text.now graph.now.work.now graph.now.b graph.now.n m t top) w.new }
 {
-    let a = areas_of(graph);
+    let a = areas_of(graph.work, graph.b, graph.n);
     put_totals(w, t, m);
     put_buckets(w, graph.work, a.table, a.lengths, m);
     put_nodes(w, graph, a.ranks, top.min(m));
