@@ -7,4 +7,5 @@ pub mod Turning
 pub mod Running
 pub mod Passing
 pub mod Transforming
+pub mod Foldings
 pub mod Knowns

@@ -26,7 +26,6 @@ use Rattle.normalize_tables.specs.declared.layout.Made.{Made}
 use Rattle.normalize_tables.specs.News.{first_of, new_at, names_at}
 use Rattle.normalize_tables.proofs.NewsKept.{step_rows_kept}
 use Rattle.normalize_tables.specs.NewByNumber.{StepRoom}
-use Rattle.fold.specs.declared.turns.Target.{Target}
 use Rattle.new_segs.specs.Chains.{MadeIs}
 use Rattle.new_segs.specs.Makes.{made_at, Frame, SegmentMade}
 use Rattle.fold.specs.Turns.{EqualStepsPut, FoldedIs, KnownIn, KnownStep, UnitIs, Folds, Stage, Room, stands_at, OnUnit, TargetIs, FoldIs, KeepIs, TurnIs}
@@ -79,12 +78,12 @@ module _ {text w : List ℕ} {b : Bases} {n : Counts} {g : Layout} {m : Made} {u
         rw (found, fold_run, name_of_new text w b n g (first_of m.first) m.segs j (f.on j z).0)
 
     -- its segment was made
-    pub target_made : TargetIs text w w b n g m unit count (record { node = n.segs + j; segs = m.segs })
+    pub target_made : TargetIs text w w b n g m unit count (n.segs + j) m.segs
     target_made =
         record {
           stage = record { making = s.making; steps = s.steps };
-          node = omega (arith, (f.on j z).0);
-          segs = (omega arith, omega arith);
+          fits = omega (arith, (f.on j z).0);
+          more = (omega arith, omega arith);
           names = record { same_name = λ k i. refl };
           frame = frame_none;
           folded = made_folded;
@@ -104,12 +103,12 @@ module _ {text w : List ℕ} {b : Bases} {n : Counts} {g : Layout} {m : Made} {u
         rw (none_found, fold_run, name_of_new text v b n g (first_of m.first) (m.segs + 1) m.segs (omega arith), a.new run e c, a.made run e c)
 
     -- there is none: a new one is made
-    pub target_new : {v : List ℕ} → SegmentMade text w v b n g (first_of m.first) m.segs unit count → TargetIs text w v b n g m unit count (record { node = n.segs + m.segs; segs = m.segs + 1 })
+    pub target_new : {v : List ℕ} → SegmentMade text w v b n g (first_of m.first) m.segs unit count → TargetIs text w v b n g m unit count (n.segs + m.segs) (m.segs + 1)
     target_new {v} a =
         record {
           stage = record { making = a.making; steps = step_rows_kept g (n.segs + (m.segs + 1)) s.steps frame.steps (omega arith) };
-          node = omega arith;
-          segs = (omega arith, omega arith);
+          fits = omega arith;
+          more = (omega arith, omega arith);
           names = a.names;
           frame = frame;
           folded = new_folded a;
@@ -120,24 +119,22 @@ module _ {text w : List ℕ} {b : Bases} {n : Counts} {g : Layout} {m : Made} {u
         frame : Frame g n.paths m.steps w v
         frame = frame_less n.paths m.steps a.frame (omega arith) (omega (arith, room.few))
 
-pub ruleset targets = (target_fits, target_made, target_new)
-
 -- a step on it
-module _ {text w v w' : List ℕ} {b : Bases} {n : Counts} {g : Layout} {m : Made} {unit count : ℕ} {mark : Orientation} {t : Target} (room : Room n m count) (two : 2 ≤ count)
-    (a : TargetIs text w v b n g m unit count t) (u : EqualStepsPut v w' g m.steps (record { node = t.node; mark = mark }) 1) where
+module _ {text w v w' : List ℕ} {b : Bases} {n : Counts} {g : Layout} {m : Made} {unit count node segs : ℕ} {mark : Orientation} (room : Room n m count) (two : 2 ≤ count)
+    (a : TargetIs text w v b n g m unit count node segs) (u : EqualStepsPut v w' g m.steps (record { node = node; mark = mark }) 1) where
   fits : m.steps + 1 ≤ n.steps
   fits = omega (arith, room.few)
 
-  pub fold_is : FoldIs text w w' b n g m unit count (sign_of mark) (record { first = m.first; segs = t.segs; steps = m.steps + 1; runs = m.runs + 1; changed = m.changed })
+  pub fold_is : FoldIs text w w' b n g m unit count (sign_of mark) (record { first = m.first; segs = segs; steps = m.steps + 1; runs = m.runs + 1; changed = m.changed })
   fold_is =
       record {
         grown =
             record {
-              stage = put_stage a.stage fits u (m.runs + 1) m.changed a.node;
+              stage = put_stage a.stage fits u (m.runs + 1) m.changed a.fits;
               first = refl;
-              low = (a.segs.0, omega arith, omega arith);
-              few = omega (arith, a.segs);
-              half = omega (arith, a.segs);
+              low = (a.more.0, omega arith, omega arith);
+              few = omega (arith, a.more);
+              half = omega (arith, a.more);
               runs = omega arith;
               names = record { same_name = λ k l. rw (put_names a.stage fits u) (a.names.same_name k l) };
               frame = frame_then a.frame (put_frame a.stage fits u);
@@ -149,7 +146,7 @@ module _ {text w v w' : List ℕ} {b : Bases} {n : Counts} {g : Layout} {m : Mad
     where
       folded : (run : Run) → OnUnit text w b unit count (sign_of mark) run
           → fold_run (segments_of text w b n) run (made_at (segments_of text w b n) text w b g (first_of m.first) m.segs)
-          ≡ stands_at (segments_of text w b n) text w' b n g (record { first = m.first; segs = t.segs; steps = m.steps + 1; runs = m.runs + 1; changed = m.changed }) m.steps
+          ≡ stands_at (segments_of text w b n) text w' b n g (record { first = m.first; segs = segs; steps = m.steps + 1; runs = m.runs + 1; changed = m.changed }) m.steps
       folded run q =
           a.folded run q.name q.times
           ∙ (unfold stands_at onto in rw (put_made a.stage fits u (segments_of text w b n), put_steps_are a.stage fits u, q.orientation) (unfold copies in refl))
@@ -219,5 +216,3 @@ module _ {text w : List ℕ} {b : Bases} {n : Counts} {i unit : ℕ} {x : StepWo
     where
       turned : (ss fs : List Segment) → Folds ss fs text w b n g → turn ss fs (run_at text w b i count) (made_at ss text w b g (first_of m.first) m.segs) ≡ stands_at ss text w' b n g r m.steps
       turned ss fs F = unfold turn in rw (by_marks ss fs F, y) (rw F.segs at (q.kept (run_at text w b i count) on_unit))
-
-pub ruleset turning = (step_known, turn_folded, turn_kept)

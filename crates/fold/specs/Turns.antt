@@ -18,7 +18,6 @@ use Rattle.normalize_tables.specs.declared.layout.Made.{Made}
 use Rattle.normalize_tables.specs.declared.rows.NewStepWords.{NewStepWords}
 use Rattle.normalize_tables.specs.News.{first_of, step_words, path_words, names_at, Agree}
 use Rattle.normalize_tables.specs.NewByNumber.{new_steps_from, StepRoom, StepRows, step_span}
-use Rattle.fold.specs.declared.turns.Target.{Target}
 use Rattle.new_segs.specs.Makes.{made_at, Making, Frame}
 
 -- ---- the steps
@@ -104,17 +103,17 @@ abbrev pub with_segs : Made → ℕ → Made
 with_segs m segs = record { first = m.first; segs = segs; steps = m.steps; runs = m.runs; changed = m.changed }
 
 -- The node of the new segment of a unit and a run length, which is made where there is none; there is room for a step on it.
-pub record TargetIs (text before work : List ℕ) (b : Bases) (n : Counts) (g : Layout) (m : Made) (unit count : ℕ) (r : Target) : Type 0 where
-  pub stage : Stage text work b n g (with_segs m r.segs)
-  pub node : r.node < n.segs + r.segs
-  pub segs : (m.segs ≤ r.segs) × (r.segs ≤ m.segs + 1)
-  pub names : Agree (n.segs + m.segs) (names_at text before b n g (first_of m.first) m.segs) (names_at text work b n g (first_of m.first) r.segs)
+pub record TargetIs (text before work : List ℕ) (b : Bases) (n : Counts) (g : Layout) (m : Made) (unit count node segs : ℕ) : Type 0 where
+  pub stage : Stage text work b n g (with_segs m segs)
+  pub fits : node < n.segs + segs
+  pub more : (m.segs ≤ segs) × (segs ≤ m.segs + 1)
+  pub names : Agree (n.segs + m.segs) (names_at text before b n g (first_of m.first) m.segs) (names_at text work b n g (first_of m.first) segs)
   pub frame : Frame g n.paths m.steps before work
   pub folded : (run : Run) → run.step.name.bytes ≡ (segment_no text before b unit).id → run.count ≡ count
       → fold_run (segments_of text before b n) run (made_at (segments_of text before b n) text before b g (first_of m.first) m.segs)
-      ≡ onto run (nth r.node (names_at text work b n g (first_of m.first) r.segs) []) (made_at (segments_of text before b n) text work b g (first_of m.first) r.segs)
+      ≡ onto run (nth node (names_at text work b n g (first_of m.first) segs) []) (made_at (segments_of text before b n) text work b g (first_of m.first) segs)
   pub room : StepRoom work g (m.steps + 1)
-  pub small : (r.node < 4294967296) × (m.steps < 4294967296) × (m.runs < 4294967296)
+  pub small : (node < 4294967296) × (m.steps < 4294967296) × (m.runs < 4294967296)
 
 -- The run is folded into one step.
 pub record FoldIs (text before work : List ℕ) (b : Bases) (n : Counts) (g : Layout) (m : Made) (unit count mark : ℕ) (r : Made) : Type 0 where

@@ -1,9 +1,11 @@
 // What the paths become, run by run (document 01, "Folding", rule 4).
 ghost use Rattle.std.specs.Prelude.{◌≡◌, ◌-◌, ◌≤◌, ◌<◌};
 ghost use Rattle.normalize_tables.specs.Layout.{Source};
-ghost use Rattle.fold.specs.Turns.{KnownSteps, Stage, Room, StepsTurned, with_path, NextIs};
+ghost use Rattle.fold.specs.Turns.{KnownSteps, Room, with_path};
+ghost use Rattle.fold.specs.Foldings.{TurnsSteps, TransformsPath};
 ghost use Rattle.fold.specs.Transforms.{AllKnown, PathReady, TransformIs};
 
+use crate::folding::Folding;
 use crate::turns::turn_run;
 use new_ids::ids::first_number;
 use normalize_tables::layout::{Area, Layout, Made};
@@ -15,32 +17,18 @@ use tables::tables::{Bases, Counts};
 use work::work::clear_words;
 
 // Turns the runs of the steps from `first` up to, not including, `end`.
-pub fn transform_path_steps(
-    text: &[u8],
-    work: &mut [u32],
-    a: Area,
-    first: usize,
-    end: usize,
-) -> Made
-    requires stage { Stage text.now work.old a.b a.n a.g a.m × Room a.n a.m (end - first) }
-    requires first_le_end { (first ≤ end) × (end ≤ a.n.steps) × KnownSteps text.now work.old a.b a.n first end }
-    ensures { StepsTurned text.now work.old work.new a.b a.n a.g a.m first end result }
+pub fn transform_path_steps(paths: &mut Folding, first: usize, end: usize)
+    requires room { Room paths.old.a.n paths.old.a.m (end - first) }
+    requires first_le_end { (first ≤ end) × (end ≤ paths.old.a.n.steps) × KnownSteps paths.old.text.now paths.old.work.now paths.old.a.b paths.old.a.n first end }
+    ensures { TurnsSteps paths.old first end paths.new }
 {
-    let mut made = a.m;
     let mut i = first;
     // No `for` over `Runs`: each turn writes the work area, which the runs' graph would hold lent across the loop.
     while i < end {
-        let graph = Graph {
-            text,
-            work,
-            b: a.b,
-            n: a.n,
-        };
-        let next = run_from(&graph, i, end);
-        made = turn_run(text, work, Area { m: made, ..a }, i, next - i);
+        let next = run_from(&paths.graph(), i, end);
+        turn_run(paths, i, next - i);
         i = next;
     }
-    made
 }
 
 // What was made with one path more, which is changed where runs of it were folded: before it there was `m`.
@@ -59,29 +47,25 @@ fn with_path(m: Made, t: Made) -> Made
 }
 
 // Transforms path `p`: its new steps are put behind the others, and its row.
-#[tactic(auto, using(crate::proofs::Passing::path_room, crate::proofs::Passing::path_known))]
-pub fn transform_path(text: &[u8], work: &mut [u32], a: Area, p: PathNo) -> Made
-    requires { Stage text.now work.old a.b a.n a.g a.m × PathReady text.now work.old a.b a.n a.m p.0 }
-    ensures { NextIs text.now work.old work.new a.b a.n a.g a.m p.0 result }
+pub fn transform_path(paths: &mut Folding, p: PathNo)
+    requires { PathReady paths.old.text.now paths.old.work.now paths.old.a.b paths.old.a.n paths.old.a.m p.0 }
+    ensures { TransformsPath paths.old p.0 paths.new }
 {
-    let graph = Graph {
-        text,
-        work,
-        b: a.b,
-        n: a.n,
-    };
+    let Area { g, m, .. } = paths.a;
+    let graph = paths.graph();
     let path = graph.path(p);
-    let t = transform_path_steps(text, work, a, path.first, path.end);
+    transform_path_steps(paths, path.first, path.end);
+    let t = paths.a.m;
     put_new_path(
-        work,
-        a.g,
+        paths.work,
+        g,
         p,
         NewPathWords {
-            first: a.m.steps,
+            first: m.steps,
             end: t.steps,
         },
     );
-    with_path(a.m, t)
+    paths.a.m = with_path(m, t);
 }
 
 // Transforms all paths: new segments, new steps and new paths are put into their tables.
@@ -100,8 +84,12 @@ pub fn transform(text: &[u8], work: &mut [u32], b: Bases, n: Counts, g: Layout) 
         runs: 0,
         changed: 0,
     };
+    // A folding for each path: with one across the loop it was not proved that the work area comes back as the last path left it.
     for p in 0..n.paths {
-        m = transform_path(text, work, Area { b, n, g, m }, PathNo(p as u32));
+        let a = Area { b, n, g, m };
+        let mut paths = Folding { text, work, a };
+        transform_path(&mut paths, PathNo(p as u32));
+        m = paths.a.m;
     }
     m
 }

@@ -4,25 +4,19 @@ ghost use Rattle.scan.specs.Orientations.{sign_of};
 ghost use Rattle.scan.specs.Places.{Inside, bytes_in};
 ghost use Rattle.tables.specs.ByNumber.{segments_of};
 ghost use Rattle.normalize_tables.specs.NewByNumber.{StepRoom};
-ghost use Rattle.fold.specs.Turns.{EqualStepsPut, KnownIn, KnownStep, UnitIs, Stage, Room, FoldedIs, TargetIs, FoldIs, KeepIs, TurnIs};
+ghost use Rattle.fold.specs.Turns.{EqualStepsPut, KnownIn, KnownStep, UnitIs, Room, FoldedIs};
+ghost use Rattle.fold.specs.Foldings.{FindsTarget, FoldsRun, KeepsRun, TurnsRun};
 
+use crate::folding::Folding;
 use new_segs::chains::made_for;
 use new_segs::segs::make_segment;
-use normalize_tables::layout::{Area, Layout, Made};
-use normalize_tables::news::News;
+use normalize_tables::layout::{Area, Layout};
 use normalize_tables::rows::{NewStepWords, put_new_step};
 use scan::orientation::Orientation;
 use scan::places::Place;
 use tables::entry::SegmentNo;
 use tables::graph::Graph;
 use work::work::word;
-
-// A node, and how many new segments there are with it.
-#[derive(Clone, Copy)]
-pub struct Target {
-    pub node: usize,
-    pub segs: usize,
-}
 
 // Puts rows of `count` equal new steps from new step `k` on.
 pub fn put_steps(work: &mut [u32], g: Layout, k: usize, r: NewStepWords, count: usize)
@@ -51,95 +45,61 @@ pub fn is_folded(work: &[u32], g: Layout, unit: SegmentNo, count: usize) -> bool
     2 <= count && word(work, g.folded + unit.0 as usize) == 1
 }
 
-// The node of the new segment of the unit and the run length, which is made where there is none. Here and below what is written passes by
-// itself: with all in a struct over `&mut work`, each contract has a clause more, that text, bases, counts and layout stay.
-#[tactic(auto, using(crate::proofs::Turning::targets))]
-pub fn target_for(text: &[u8], work: &mut [u32], a: Area, unit: SegmentNo, count: usize) -> Target
-    requires { Stage text.now work.old a.b a.n a.g a.m × Room a.n a.m count × (unit.0 < a.n.segs) × (2 ≤ count) }
-    ensures { TargetIs text.now work.old work.new a.b a.n a.g a.m unit.0 count result }
+// The node of the new segment of the unit and the run length, which is made where there is none.
+#[tactic(auto, using(crate::proofs::Foldings::finding))]
+pub fn target_for(paths: &mut Folding, unit: SegmentNo, count: usize) -> usize
+    requires { Room paths.old.a.n paths.old.a.m count × (unit.0 < paths.old.a.n.segs) × (2 ≤ count) }
+    ensures { FindsTarget paths.old unit.0 count result paths.new }
 {
-    let news = News { text, work, a };
+    let a = paths.a;
+    let news = paths.news();
     if let Some(j) = made_for(&news, unit, count) {
-        return Target {
-            node: a.n.segs + j,
-            segs: a.m.segs,
-        };
+        return a.n.segs + j;
     }
-    make_segment(text, work, a, unit, count);
-    Target {
-        node: a.n.segs + a.m.segs,
-        segs: a.m.segs + 1,
-    }
+    make_segment(paths.text, paths.work, a, unit, count);
+    paths.a.m.segs = a.m.segs + 1;
+    a.n.segs + a.m.segs
 }
 
 // Folds a run into one step on the new segment of its unit and length.
-pub fn fold_run(
-    text: &[u8],
-    work: &mut [u32],
-    a: Area,
-    unit: SegmentNo,
-    count: usize,
-    mark: Orientation,
-) -> Made
-    requires stage { Stage text.now work.old a.b a.n a.g a.m × Room a.n a.m count }
-    requires unit_lt_segs { (unit.0 < a.n.segs) × (2 ≤ count) }
-    ensures { FoldIs text.now work.old work.new a.b a.n a.g a.m unit.0 count (sign_of mark) result }
+pub fn fold_run(paths: &mut Folding, unit: SegmentNo, count: usize, mark: Orientation)
+    requires room { Room paths.old.a.n paths.old.a.m count }
+    requires unit_lt_segs { (unit.0 < paths.old.a.n.segs) × (2 ≤ count) }
+    ensures { FoldsRun paths.old unit.0 count (sign_of mark) paths.new }
 {
-    let m = a.m;
-    let t = target_for(text, work, a, unit, count);
-    let node = t.node;
-    put_steps(work, a.g, m.steps, NewStepWords { node, mark }, 1);
-    Made {
-        first: m.first,
-        segs: t.segs,
-        steps: m.steps + 1,
-        runs: m.runs + 1,
-        changed: m.changed,
-    }
+    let Area { g, m, .. } = paths.a;
+    let node = target_for(paths, unit, count);
+    put_steps(paths.work, g, m.steps, NewStepWords { node, mark }, 1);
+    paths.a.m.steps = m.steps + 1;
+    paths.a.m.runs = m.runs + 1;
 }
 
 // Keeps the steps of a run.
-pub fn keep_run(
-    text: &[u8],
-    work: &mut [u32],
-    a: Area,
-    unit: SegmentNo,
-    count: usize,
-    mark: Orientation,
-) -> Made
-    requires stage { Stage text.now work.old a.b a.n a.g a.m × Room a.n a.m count }
-    requires unit_lt_segs { unit.0 < a.n.segs }
-    ensures { KeepIs text.now work.old work.new a.b a.n a.g a.m unit.0 count (sign_of mark) result }
+pub fn keep_run(paths: &mut Folding, unit: SegmentNo, count: usize, mark: Orientation)
+    requires room { Room paths.old.a.n paths.old.a.m count }
+    requires unit_lt_segs { unit.0 < paths.old.a.n.segs }
+    ensures { KeepsRun paths.old unit.0 count (sign_of mark) paths.new }
 {
-    let m = a.m;
+    let Area { g, m, .. } = paths.a;
     let node = unit.0 as usize;
-    put_steps(work, a.g, m.steps, NewStepWords { node, mark }, count);
-    Made {
-        first: m.first,
-        segs: m.segs,
-        steps: m.steps + count,
-        runs: m.runs,
-        changed: m.changed,
-    }
+    put_steps(paths.work, g, m.steps, NewStepWords { node, mark }, count);
+    paths.a.m.steps = m.steps + count;
 }
 
 // Turns the run of `count` steps from step `i` on.
-#[tactic(auto, using(crate::proofs::Turning::turning))]
-pub fn turn_run(text: &[u8], work: &mut [u32], a: Area, i: usize, count: usize) -> Made
-    requires stage { Stage text.now work.old a.b a.n a.g a.m × Room a.n a.m count }
-    requires i_lt_steps { (i < a.n.steps) × KnownStep text.now work.old a.b a.n i }
-    ensures { TurnIs text.now work.old work.new a.b a.n a.g a.m i count result }
+#[tactic(auto, using(crate::proofs::Foldings::turning))]
+pub fn turn_run(paths: &mut Folding, i: usize, count: usize)
+    requires room { Room paths.old.a.n paths.old.a.m count }
+    requires i_lt_steps { (i < paths.old.a.n.steps) × KnownStep paths.old.text.now paths.old.work.now paths.old.a.b paths.old.a.n i }
+    ensures { TurnsRun paths.old i count paths.new }
 {
-    let graph = Graph {
-        text,
-        work,
-        b: a.b,
-        n: a.n,
-    };
+    let g = paths.a.g;
+    let graph = paths.graph();
     let s = graph.step(i);
     let unit = unit_of(&graph, s.name);
-    if is_folded(work, a.g, unit, count) {
-        return fold_run(text, work, a, unit, count, s.mark);
+    if is_folded(graph.work, g, unit, count) {
+        fold_run(paths, unit, count, s.mark);
+    } else {
+        keep_run(paths, unit, count, s.mark);
     }
-    keep_run(text, work, a, unit, count, s.mark)
 }

@@ -1,16 +1,20 @@
 use borrow.Author.Rules.{rules}
-use Rattle.fold.proofs.Passing.{passing_ready, passing_more}
+use Rattle.fold.proofs.Passing.{passing_ready}
 use Rattle.fold.proofs.Transforming.{passing_start, transform_is}
+use Rattle.fold.proofs.Foldings.{path_given}
 use Rattle.fold.proofs.paths.transform.Goals as goal
 
 pub loop-p-init : goal.loop-p-init
 loop-p-init c = search passing_start
 
-pub transform_path-m-requires : goal.transform_path-m-requires
-transform_path-m-requires c = (search rules, passing_ready c.loop-p.invariant c.loop-p-test.true)
+pub invariant_of-paths : goal.invariant_of-paths
+invariant_of-paths c = record { stage = c.loop-p.invariant.stage }
+
+pub transform_path-requires : goal.transform_path-requires
+transform_path-requires c = passing_ready c.loop-p.invariant c.loop-p-test.true
 
 pub loop-p-preserved : goal.loop-p-preserved
-loop-p-preserved c = search passing_more
+loop-p-preserved c = path_given c.loop-p.invariant c.loop-p-test.true c.transform_path.ensures.next (search rules)
 
 pub returns : goal.returns
 returns c = search transform_is
