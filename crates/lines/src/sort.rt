@@ -17,7 +17,7 @@ pub enum Sort {
     Other,
 }
 
-// The sort of the line that starts at `start`.
+// The sort of a line.
 #[tactic(auto, using(crate::proofs::LineSorts::sorting))]
 pub fn sort_of(text: &[u8], line: Place) -> Sort
     requires { Inside text.now line }

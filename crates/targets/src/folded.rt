@@ -27,20 +27,22 @@ pub fn on_marked(graph: &Graph, marks: usize, i: usize, times: usize) -> bool
     }
 }
 
-// Is some segment folded? The search ends at the first run of two or more on an eligible segment.
+// Is some segment folded? The search leaves both loops at the first run of two or more on an eligible segment (document 01: a labelled break).
 pub fn any_folded(graph: &Graph, g: Layout) -> bool
     requires { Source graph.now.text.now graph.now.work.now graph.now.b graph.now.n g }
     ensures { AnyIs graph.now.text.now graph.now.work.now graph.now.b graph.now.n g result }
 {
-    for p in 0..graph.n.paths {
+    let mut found = false;
+    'paths: for p in 0..graph.n.paths {
         let path = graph.path(PathNo(p as u32));
         for run in Runs::of(graph, path.first, path.end) {
             if on_marked(graph, g.eligible, run.start, run.len()) {
-                return true;
+                found = true;
+                break 'paths;
             }
         }
     }
-    false
+    found
 }
 
 // Marks the segment of the run from step `i` on, of the steps before step `end`, where that is one of two or more; answers where it ends.
