@@ -10,7 +10,7 @@ use lines::sort::{Sort, sort_of};
 use refusals::reason::Reason;
 use refusals::refusal::Refusal;
 use scan::lines::Lines;
-use tables::entry::{RawLine, Record};
+use tables::entry::{LineEntry, RawLine, Record};
 use tables::rows::put_line;
 use tables::tables::{Bases, Counts, one_more};
 
@@ -39,7 +39,7 @@ pub fn read_line(l: &mut NewLine) -> Result<(Record, Counts), Reason>
     ensures { ReadsLine l.old result l.new }
 {
     let (record, m) = add_record(l)?;
-    put_line(l.work, l.b, l.n.lines, record);
+    put_line(l.work, l.b, l.n.lines, LineEntry { holds: record });
     Ok((record, m))
 }
 

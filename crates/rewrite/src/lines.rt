@@ -48,7 +48,7 @@ pub fn put_raw_line(w: &mut Writer, graph: &Graph, class: Class, i: usize)
     requires { i < graph.now.n.lines }
     ensures { Puts w.old (raw_piece class graph.now.text.now graph.now.work.now graph.now.b i) w.new }
 {
-    if let Some(line) = raw_of(class, graph.line(i)) {
+    if let Some(line) = raw_of(class, graph.line(i).holds) {
         put_line(w, line.of(graph.text));
     }
 }

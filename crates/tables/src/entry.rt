@@ -32,6 +32,12 @@ pub enum Record {
     Other(RawLine),
 }
 
+// A line's entry.
+#[derive(Clone, Copy)]
+pub struct LineEntry {
+    pub holds: Record,
+}
+
 // The words of a record: its sort, and its number, or its start and its length.
 pub fn words_of(r: Record) -> [usize; 3]
     ensures words { result ≡ words_of r }

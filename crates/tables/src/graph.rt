@@ -8,7 +8,7 @@ ghost use Rattle.tables.specs.Props.{Fits-prop};
 ghost use Rattle.tables.specs.Tables.{Laid, Readable};
 ghost use Rattle.tables.specs.ByNumber.{tables_end, place_at, LineIs, SegmentIs, LinkIs, PathIs, StepIs, NamedIs};
 
-use crate::entry::{LinkNo, PathNo, Record, SegmentNo, record_at};
+use crate::entry::{LineEntry, LinkNo, PathNo, SegmentNo, record_at};
 use crate::kinds::PathKind;
 use crate::rows::{LinkWords, PathWords, SegmentWords, StepWords};
 use crate::segments::{find_segment, place_at};
@@ -36,11 +36,13 @@ impl<'a> Graph<'a> {
 
     // Line `i`.
     #[tactic(auto, using(crate::proofs::ByNumber::line_is))]
-    pub fn line(&self, i: usize) -> Record
+    pub fn line(&self, i: usize) -> LineEntry
         requires { i < self.now.n.lines }
-        ensures { LineIs self.now.text.now self.now.work.now self.now.b self.now.n i result }
+        ensures { LineIs self.now.text.now self.now.work.now self.now.b self.now.n i result.holds }
     {
-        record_at(self.work, self.b.lines + LINE * i)
+        LineEntry {
+            holds: record_at(self.work, self.b.lines + LINE * i),
+        }
     }
 
     // Segment `i`.

@@ -6,7 +6,7 @@ ghost use Rattle.work.specs.Rows.{Small};
 ghost use Rattle.tables.specs.Entries.{words_of};
 ghost use Rattle.tables.specs.ByNumber.{segment_words, link_words, path_words, step_words};
 
-use crate::entry::{LinkNo, PathNo, Record, SegmentNo, words_of};
+use crate::entry::{LineEntry, LinkNo, PathNo, SegmentNo, words_of};
 use crate::kinds::PathKind;
 use crate::tables::{Bases, LINE, LINK, PATH, SEGMENT, STEP};
 use scan::orientation::Orientation;
@@ -56,11 +56,11 @@ pub fn step_place(b: Bases, i: usize) -> usize
 }
 
 // Puts line `i`.
-pub fn put_line(work: &mut [u32], b: Bases, i: usize, record: Record)
+pub fn put_line(work: &mut [u32], b: Bases, i: usize, entry: LineEntry)
     requires { b.lines + 3 * i + 3 ≤ length work.old }
-    ensures { work.new ≡ sets work.old (b.lines + 3 * i) (words_of «record») }
+    ensures { work.new ≡ sets work.old (b.lines + 3 * i) (words_of entry.holds) }
 {
-    put_row(work, b.lines + LINE * i, &words_of(record));
+    put_row(work, b.lines + LINE * i, &words_of(entry.holds));
 }
 
 // Puts segment `i`.
