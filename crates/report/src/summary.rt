@@ -1,11 +1,16 @@
 // The whole report.
+ghost use Rattle.std.specs.Prelude.{length};
 ghost use Rattle.gfa_spec.specs.Bytes.{ended};
+ghost use Rattle.gfa_spec.specs.Calls.{fitted};
+ghost use Rattle.reader.specs.Served.{answer_in, Answered};
 ghost use Rattle.writers.specs.Writers.{Puts};
 ghost use Rattle.report.specs.Totals.{total_lines, report_from, Reportable};
 
 use crate::totals::{Totals, areas_of};
 use node_lines::buckets::put_buckets;
 use node_lines::output::put_nodes;
+use refusals::reason::Reason;
+use refusals::refusal::Refusal;
 use tables::graph::Graph;
 use writers::pieces::put_number_lines;
 use writers::writer::Writer;
@@ -35,4 +40,28 @@ pub fn put_report(w: &mut Writer, graph: &Graph, t: Totals, m: usize, top: usize
     put_totals(w, t, m);
     put_buckets(w, graph.work, a.table, a.lengths, m);
     put_nodes(w, graph, a.ranks, top.min(m));
+}
+
+// Measures the report on an empty buffer, and writes it where it fits.
+pub fn write_report(
+    out: &mut [u8],
+    graph: &Graph,
+    t: Totals,
+    m: usize,
+    top: usize,
+) -> Result<usize, Refusal>
+    requires { Reportable graph.now.text.now graph.now.work.now graph.now.b graph.now.n m }
+    ensures { Answered out.old out.new (answer_in result)
+        (fitted (length out.old) (report_from graph.now.text.now graph.now.work.now graph.now.b graph.now.n m t top)) }
+{
+    let room = out.len();
+    let mut nothing = [0u8; 0];
+    let mut w = Writer::new(&mut nothing, room + 1);
+    put_report(&mut w, graph, t, m, top);
+    let need = w.at;
+    if room < need {
+        return Err(Refusal::of(Reason::ShortOutput));
+    }
+    put_report(&mut Writer::new(out, room + 1), graph, t, m, top);
+    Ok(need)
 }
