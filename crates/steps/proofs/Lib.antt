@@ -1,4 +1,5 @@
 -- Laws of fields of steps.
+pub mod FieldSteps
 pub mod Items
 pub mod Stepping
 pub mod Marks

@@ -1,7 +1,7 @@
 -- The fields that hold steps and orientations. Assumes nothing.
 use Rattle.std.specs.Prelude.{Result, Ok}
 use Rattle.refusals.specs.declared.reason.Reason.{Reason}
-use Prim.Native.Nat.{ℕ, suc, ◌+◌, ◌≤◌}
+use Prim.Native.Nat.{ℕ, suc}
 use native.Mathlib.Omega.{arith}
 use mathlib.Core.Bool.{Bool, true, false, cond}
 use mathlib.Core.List.{List, []}
@@ -11,10 +11,13 @@ use lib.ListN.{length}
 use borrow.Author.Tests.{lt-ltb, le-ltb}
 use Rattle.gfa_spec.specs.Bytes.{Part, part, same, star, is_empty, split, nth}
 use Rattle.gfa_spec.specs.Reading.{Kind, P, W, Step, path, Read, refused, accepted, then, fields, nowhere, parse_items, parse_psteps, parse_wsteps, parse_p, parse_w, non_empty, walk}
-use Rattle.scan.specs.Places.{part_at, FoundAt, FewFields}
+use Rattle.scan.specs.Places.{part_at, bytes_in, FoundAt, FewFields}
 use Rattle.work.specs.Rows.{rows_at}
 use Rattle.tables.specs.Steps.{steps_at}
-use Rattle.steps.specs.StepFields.{StepsPut, StepsIs}
+use Rattle.steps.specs.declared.step_field.StepField.{StepField}
+use Rattle.steps.specs.StepFields.{StepsIs}
+use Rattle.steps.specs.FieldSteps.{PutsSteps}
+use Rattle.steps.proofs.FieldSteps.{same_none}
 use Rattle.tables.specs.declared.kinds.PathKind.{PathKind}
 use Rattle.tables.specs.declared.kinds.PathKind.TheVariants as kinds
 use Rattle.tables.specs.Paths.{kind_in, column_of, short_of, steps_of, parse_path, path_fields}
@@ -22,61 +25,60 @@ use Rattle.gfa_spec.proofs.Parts.{length_part}
 use Rattle.scan.proofs.LineEnds as ends
 use Rattle.work.proofs.Rows.{only_none, each_none}
 
--- ---- answers
-
--- what the answer to some steps says, by its cases
-module _ {text work work' : List ℕ} {base size : ℕ} {r : Read (List Step)} {c : Result ℕ Reason} (h : StepsIs text work work' base size r c) where
-  pub steps_put : {m : ℕ} → c ≡ Ok m → StepsPut text work work' base size m r
-  steps_put e = rw e at h.says
-
 -- ---- the steps of a P or W line
 
 -- no steps
-none_put : {text work : List ℕ} (base size : ℕ) {r : Read (List Step)} → r ≡ accepted [] → StepsIs text work work base size r (Ok 0)
+none_put : {f : StepField} {r : Read (List Step)} → r ≡ accepted [] → PutsSteps f r (Ok 0) f
 unfolding steps_at rows_at
-none_put base size e = record { says = record { read = e; few = omega arith; rows = each_none; long = refl; only = only_none } }
+none_put e = record { same = same_none; steps = record { says = record { read = e; few = omega arith; rows = each_none; long = refl; only = only_none } } }
 
-module _ (text : List ℕ) (start size : ℕ) {t : Bool} (i : t ≡ same (part start size text) star) where
-  pub p_star : {work : List ℕ} {base : ℕ} → t ≡ true → StepsIs text work work base size (parse_psteps (part_at text start size)) (Ok 0)
+module _ {f g : StepField} {c : Result ℕ Reason} where
+  -- the same steps, read otherwise
+  puts_as : {r s : Read (List Step)} → s ≡ r → PutsSteps f r c g → PutsSteps f s c g
+  puts_as e h = record { same = h.same; steps = rw e h.steps }
+
+module _ {f : StepField} {t : Bool} (i : t ≡ same (bytes_in f.text.now f.field) star) where
+  pub p_star : t ≡ true → PutsSteps f (parse_psteps (part_at f.text.now f.field.start f.field.size)) (Ok 0) f
   unfolding parse_psteps part_at
-  p_star {work} {base} e = none_put base size (rw (sym i ∙ e))
+  p_star e = none_put (rw (sym i ∙ e))
 
-  pub p_items : {work work' : List ℕ} {base : ℕ} {c : Result ℕ Reason} → t ≡ false → StepsIs text work work' base size (parse_items (split 44 start (part start size text))) c →
-      StepsIs text work work' base size (parse_psteps (part_at text start size)) c
-  unfolding parse_psteps part_at
-  p_items e h = rw (sym i ∙ e) h
-
-  pub w_star : {work : List ℕ} {base : ℕ} → t ≡ true → StepsIs text work work base size (parse_wsteps (part_at text start size)) (Ok 0)
+  pub w_star : t ≡ true → PutsSteps f (parse_wsteps (part_at f.text.now f.field.start f.field.size)) (Ok 0) f
   unfolding parse_wsteps part_at
-  w_star {work} {base} e = none_put base size (rw (sym i ∙ e))
+  w_star e = none_put (rw (sym i ∙ e))
 
-  pub w_none : {work : List ℕ} {base : ℕ} → t ≡ false → size ≡ 0 → StepsIs text work work base size (parse_wsteps (part_at text start size)) (Ok 0)
+  pub w_none : t ≡ false → f.field.size ≡ 0 → PutsSteps f (parse_wsteps (part_at f.text.now f.field.start f.field.size)) (Ok 0) f
   unfolding parse_wsteps part_at part is_empty same star
-  w_none {work} {base} f e = none_put base size (rw e)
+  w_none n e = none_put (rw e)
 
-  pub w_walk : {work work' : List ℕ} {base : ℕ} {c : Result ℕ Reason} → t ≡ false → start + size ≤ length text → (size ≡ 0 → ⊥) →
-      StepsIs text work work' base size (non_empty (walk start (part start size text)).steps) c → StepsIs text work work' base size (parse_wsteps (part_at text start size)) c
-  unfolding parse_wsteps part_at
-  w_walk f h n p = rw (sym i ∙ f, ends.non_empty (part start size text) (omega (arith, n, length_part start size text h))) p
+  module _ {g : StepField} {c : Result ℕ Reason} where
+    pub p_items : t ≡ false → PutsSteps f (parse_items (split 44 f.field.start (part f.field.start f.field.size f.text.now))) c g
+        → PutsSteps f (parse_psteps (part_at f.text.now f.field.start f.field.size)) c g
+    unfolding parse_psteps part_at
+    p_items e h = puts_as (rw (sym i ∙ e)) h
 
--- by the kind
-module _ {text work work' : List ℕ} {base size : ℕ} (start : ℕ) {kind : PathKind} {c : Result ℕ Reason} where
-  pub of_p_line : kind ≡ kinds.P → StepsIs text work work' base size (parse_psteps (part_at text start size)) c →
-      StepsIs text work work' base size (steps_of (kind_in kind) (part_at text start size)) c
+    pub w_walk : t ≡ false → (f.field.size ≡ 0 → ⊥) → PutsSteps f (non_empty (walk f.field.start (part f.field.start f.field.size f.text.now)).steps) c g
+        → PutsSteps f (parse_wsteps (part_at f.text.now f.field.start f.field.size)) c g
+    unfolding parse_wsteps part_at
+    w_walk e n h =
+        let b = part f.field.start f.field.size f.text.now in
+        puts_as (rw (sym i ∙ e, ends.non_empty b (omega (arith, n, length_part f.field.start f.field.size f.text.now f.inside)))) h
+
+-- by the kind, where the work area comes back
+module _ {f g : StepField} {kind : PathKind} {c : Result ℕ Reason} {work : List ℕ} (e : work ≡ g.work.now) where
+  pub of_p_line : kind ≡ kinds.P → PutsSteps f (parse_psteps (part_at f.text.now f.field.start f.field.size)) c g
+      → StepsIs f.text.now f.work.now work f.base f.field.size (steps_of (kind_in kind) (part_at f.text.now f.field.start f.field.size)) c
   unfolding steps_of
-  of_p_line e h = rw e h
+  of_p_line k h = rw (k, e) h.steps
 
-  pub of_w_line : kind ≡ kinds.W → StepsIs text work work' base size (parse_wsteps (part_at text start size)) c →
-      StepsIs text work work' base size (steps_of (kind_in kind) (part_at text start size)) c
+  pub of_w_line : kind ≡ kinds.W → PutsSteps f (parse_wsteps (part_at f.text.now f.field.start f.field.size)) c g
+      → StepsIs f.text.now f.work.now work f.base f.field.size (steps_of (kind_in kind) (part_at f.text.now f.field.start f.field.size)) c
   unfolding steps_of
-  of_w_line e h = rw e h
+  of_w_line k h = rw (k, e) h.steps
 
 -- what the reading of a field goes on by
 pub ruleset of_p = (p_star, p_items)
 
 pub ruleset of_w = (w_star, w_none, w_walk)
-
-pub ruleset by_kind = (of_p_line, of_w_line)
 
 -- ---- the line
 

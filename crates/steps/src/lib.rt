@@ -3,4 +3,5 @@
 
 pub mod fields;
 pub mod p_steps;
+pub mod step_field;
 pub mod walks;

@@ -3,8 +3,10 @@ ghost use Rattle.std.specs.Prelude.{◌+◌, ◌*◌, ◌≤◌, length};
 ghost use Rattle.gfa_spec.specs.Bytes.{split, part};
 ghost use Rattle.gfa_spec.specs.Reading.{parse_items, parse_psteps};
 ghost use Rattle.scan.specs.Places.{Inside, part_at};
-ghost use Rattle.steps.specs.StepFields.{StepsIs, ItemIs};
+ghost use Rattle.steps.specs.StepFields.{ItemIs};
+ghost use Rattle.steps.specs.FieldSteps.{PutsSteps};
 
+use crate::step_field::StepField;
 use refusals::reason::Reason;
 use scan::names::is_star;
 use scan::orientation::Orientation;
@@ -43,36 +45,25 @@ pub fn read_item(
     Ok(n + 1)
 }
 
-// Puts the steps of a field's items into the table at `base`.
+// Puts the steps of a field's items into the table.
 #[tactic(auto, using(crate::proofs::Stepping::stepping))]
-pub fn read_items(text: &[u8], work: &mut [u32], base: usize, field: Place) -> Result<usize, Reason>
-    requires inside { Inside text.now field }
-    requires short { length text.now ≤ 1048576 }
-    requires room { base + 3 * field.size + 3 ≤ length work.old }
-    ensures { StepsIs text.now work.old work.new base field.size (parse_items (split 44 field.start (part field.start field.size text.now))) result }
+pub fn read_items(f: &mut StepField) -> Result<usize, Reason>
+    ensures { PutsSteps f.old (parse_items (split 44 f.old.field.start (part f.old.field.start f.old.field.size f.old.text.now))) result f.new }
 {
     let mut n = 0;
-    for item in Split::of(text, b',', field) {
-        n = read_item(text, work, base, n, item)?;
+    for item in Split::of(f.text, b',', f.field) {
+        n = read_item(f.text, f.work, f.base, n, item)?;
     }
     Ok(n)
 }
 
-// Puts the steps of a P line's field into the table at `base`.
+// Puts the steps of a P line's field into the table.
 #[tactic(auto, using(crate::proofs::StepFields::of_p))]
-pub fn parse_p_steps(
-    text: &[u8],
-    work: &mut [u32],
-    base: usize,
-    field: Place,
-) -> Result<usize, Reason>
-    requires inside { Inside text.now field }
-    requires short { length text.now ≤ 1048576 }
-    requires room { base + 3 * field.size + 3 ≤ length work.old }
-    ensures { StepsIs text.now work.old work.new base field.size (parse_psteps (part_at text.now field.start field.size)) result }
+pub fn parse_p_steps(f: &mut StepField) -> Result<usize, Reason>
+    ensures { PutsSteps f.old (parse_psteps (part_at f.old.text.now f.old.field.start f.old.field.size)) result f.new }
 {
-    if is_star(field.of(text)) {
+    if is_star(f.field.of(f.text)) {
         return Ok(0);
     }
-    read_items(text, work, base, field)
+    read_items(f)
 }

@@ -5,8 +5,10 @@ ghost use Rattle.gfa_spec.specs.Bytes.{part};
 ghost use Rattle.gfa_spec.specs.Reading.{is_mark, orientation_of, non_empty, walk, parse_wsteps};
 ghost use Rattle.scan.specs.Orientations.{sign_of};
 ghost use Rattle.scan.specs.Places.{Inside, part_at};
-ghost use Rattle.steps.specs.StepFields.{StepsIs, MarkIs};
+ghost use Rattle.steps.specs.StepFields.{MarkIs};
+ghost use Rattle.steps.specs.FieldSteps.{PutsSteps};
 
+use crate::step_field::StepField;
 use refusals::reason::Reason;
 use scan::names::is_star;
 use scan::orientation::Orientation;
@@ -99,24 +101,22 @@ impl<'a> Iterator for Walk<'a> {
     }
 }
 
-// Puts the steps of a walk into the table at `base`.
+// Puts the steps of a walk into the table.
 #[tactic(auto, using(crate::proofs::Walking::walking))]
-pub fn read_walk(text: &[u8], work: &mut [u32], base: usize, field: Place) -> Result<usize, Reason>
-    requires inside { Inside text.now field }
-    requires short { length text.now ≤ 1048576 }
-    requires room { base + 3 * field.size + 3 ≤ length work.old }
-    ensures { StepsIs text.now work.old work.new base field.size (non_empty (walk field.start (part field.start field.size text.now)).steps) result }
+pub fn read_walk(f: &mut StepField) -> Result<usize, Reason>
+    ensures { PutsSteps f.old (non_empty (walk f.old.field.start (part f.old.field.start f.old.field.size f.old.text.now)).steps) result f.new }
 {
-    let end = field.start + field.size;
+    let end = f.field.start + f.field.size;
+    // Counted by hand: the count is needed behind the loop, where the number that an `enumerate` gives is gone.
     let mut n = 0;
-    for step in Walk::of(text, field) {
+    for step in Walk::of(f.text, f.field) {
         if step.name.size == 0 {
             if step.name.start == end {
                 return Err(Reason::EmptyLastStep);
             }
             return Err(Reason::EmptyStep);
         }
-        put_step(work, base, n, step);
+        put_step(f.work, f.base, n, step);
         n += 1;
     }
     if n == 0 {
@@ -125,24 +125,13 @@ pub fn read_walk(text: &[u8], work: &mut [u32], base: usize, field: Place) -> Re
     Ok(n)
 }
 
-// Puts the steps of a W line's field into the table at `base`.
+// Puts the steps of a W line's field into the table.
 #[tactic(auto, using(crate::proofs::StepFields::of_w))]
-pub fn parse_w_steps(
-    text: &[u8],
-    work: &mut [u32],
-    base: usize,
-    field: Place,
-) -> Result<usize, Reason>
-    requires inside { Inside text.now field }
-    requires short { length text.now ≤ 1048576 }
-    requires room { base + 3 * field.size + 3 ≤ length work.old }
-    ensures { StepsIs text.now work.old work.new base field.size (parse_wsteps (part_at text.now field.start field.size)) result }
+pub fn parse_w_steps(f: &mut StepField) -> Result<usize, Reason>
+    ensures { PutsSteps f.old (parse_wsteps (part_at f.old.text.now f.old.field.start f.old.field.size)) result f.new }
 {
-    if is_star(field.of(text)) {
+    if is_star(f.field.of(f.text)) || f.field.size == 0 {
         return Ok(0);
     }
-    if field.size == 0 {
-        return Ok(0);
-    }
-    read_walk(text, work, base, field)
+    read_walk(f)
 }

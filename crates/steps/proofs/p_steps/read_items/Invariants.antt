@@ -3,4 +3,4 @@ use Rattle.steps.proofs.Stepping.{Stepping}
 use Rattle.steps.proofs.p_steps.read_items.Given as goal
 
 abbrev pub invariant-loop-item : goal.invariant-loop-item
-invariant-loop-item l = Stepping l.text l.initial.work l.work l.base l.fn.field.start l.fn.field.size l.item-iterator l.n
+invariant-loop-item l = Stepping l.initial.f l.f l.item-iterator l.n

@@ -3,4 +3,4 @@ use Rattle.steps.proofs.Walking.{Walking}
 use Rattle.steps.proofs.walks.read_walk.Given as goal
 
 abbrev pub invariant-loop-step : goal.invariant-loop-step
-invariant-loop-step l = Walking l.text l.initial.work l.work l.base l.fn.field.start l.fn.field.size l.step-iterator l.n
+invariant-loop-step l = Walking l.initial.f l.f l.step-iterator l.n
