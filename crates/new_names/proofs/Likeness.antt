@@ -1,19 +1,14 @@
 -- Names compared sanitized, from their ends. Assumes nothing.
-use Prim.Native.Nat.{ℕ, suc, ◌≤◌, ◌<◌}
+use Prim.Native.Nat.{ℕ, suc, ◌-◌, ◌≤◌, ◌<◌}
 use native.Mathlib.Omega.{arith}
 use mathlib.Core.Bool.{Bool, true, false, cond}
 use mathlib.Core.List.{List}
-use mathlib.Core.Path.{◌≡◌, refl, sym, ap, ◌∙◌}
-use lib.ListN.{length, get_or, take}
-use lib.Seq.{get_or-take, length-take-le}
-use Rattle.std.specs.Prelude.{Option, None, Some}
+use mathlib.Core.Path.{◌≡◌, sym, ap, ◌∙◌}
+use lib.ListN.{length, get_or}
 use Rattle.gfa_spec.specs.Bytes.{same, AgreeFrom}
-use Rattle.gfa_spec.proofs.Comparing.{same_length, agree_back, agree_all, agree_equal, same_differ}
-use Rattle.gfa_spec.proofs.Parts.{by_order}
+use Rattle.gfa_spec.proofs.Comparing.{same_length, agree_back, agree_all, same_differ}
 use Rattle.gfa_spec.proofs.Tests.{equal_same, same_equal, same_sym, refute, clash}
 use Rattle.normalize_spec.specs.Folding.{is_plain, sanitized}
-use Rattle.scan.specs.Differences.{DifferenceIs}
-use Rattle.scan.proofs.SameNames.{difference_inside, difference_behind, difference_none}
 use Rattle.new_names.proofs.Sanitizing.{length_sanitized, get_or_sanitized, sanitized_twice}
 
 -- ---- the names, sanitized
@@ -21,7 +16,6 @@ use Rattle.new_names.proofs.Sanitizing.{length_sanitized, get_or_sanitized, sani
 -- The state at `end`: from there on the names agree, sanitized.
 pub record Alike (xs ys : List ℕ) (end : ℕ) : Type 0 where
   pub long : length xs ≡ length ys
-  pub high : end ≤ length xs
   pub agree : AgreeFrom (sanitized xs) (sanitized ys) end
 
 -- names of other lengths
@@ -29,49 +23,35 @@ pub unlike_long : (xs ys : List ℕ) → (length xs ≡ length ys → ⊥) → f
 unlike_long xs ys n = sym (same_length _ _ (λ e. n (sym (length_sanitized xs) ∙ e ∙ length_sanitized ys)))
 
 pub alike_start : {xs ys : List ℕ} → length xs ≡ length ys → Alike xs ys (length xs)
-alike_start {xs} h = record { long = h; high = omega arith; agree = record { bytes = λ k l m. absurd (omega (arith, length_sanitized xs)) } }
+alike_start {xs} h = record { long = h; agree = record { bytes = λ k l m. absurd (omega (arith, length_sanitized xs)) } }
 
-module _ {xs ys : List ℕ} {n : ℕ} (s : Alike xs ys n) where
-  -- as many bytes are in the front
-  front : n ≡ length (take n xs)
-  front = sym (length-take-le n xs s.high)
+pub alike_yes : {xs ys : List ℕ} → Alike xs ys 0 → true ≡ same (sanitized xs) (sanitized ys)
+alike_yes {xs} {ys} s = sym (equal_same _ _ (agree_all (length_sanitized xs ∙ s.long ∙ sym (length_sanitized ys)) s.agree))
 
+-- the byte before those that agree
+module _ {xs ys : List ℕ} {j : ℕ} (s : Alike xs ys j) (h : 0 < j) (k : j ≤ length xs) where
   -- what is equal is equal sanitized
-  on : {r : ℕ} → AgreeFrom (take n xs) (take n ys) r → AgreeFrom (sanitized xs) (sanitized ys) r
-  on {r} a = record { bytes = λ k l m. by_order n k (λ h. s.agree.bytes k h m) (go k l) }
-    where
-      go : (k : ℕ) → r ≤ k → k < n → get_or (sanitized xs) k 0 ≡ get_or (sanitized ys) k 0
-      go k l h =
-          let raw = sym (get_or-take n xs k 0 h) ∙ a.bytes k l (omega (arith, front)) ∙ get_or-take n ys k 0 h in
-          get_or_sanitized xs k (omega (arith, s.high)) ∙ ap (λ b. cond (is_plain b) b 95) raw ∙ sym (get_or_sanitized ys k (omega (arith, s.high, s.long)))
+  pub alike_equal : get_or xs (j - 1) 0 ≡ get_or ys (j - 1) 0 → Alike xs ys (j - 1)
+  alike_equal e =
+      let first = get_or_sanitized xs (j - 1) (omega arith) in
+      let second = get_or_sanitized ys (j - 1) (omega (arith, s.long)) in
+      record { long = s.long; agree = agree_back (omega arith) s.agree (first ∙ ap (λ b. cond (is_plain b) b 95) e ∙ sym second) }
 
-  module _ {d : Option ℕ} (is : DifferenceIs (take n xs) (take n ys) d) where
-    pub alike_yes : d ≡ None → true ≡ same (sanitized xs) (sanitized ys)
-    alike_yes e = sym (equal_same _ _ (agree_all (length_sanitized xs ∙ s.long ∙ sym (length_sanitized ys)) (on (agree_equal (difference_none is e)))))
+  module _ {a b : ℕ} (p : a ≡ cond (is_plain (get_or xs (j - 1) 0)) (get_or xs (j - 1) 0) 95) (q : b ≡ cond (is_plain (get_or ys (j - 1) 0)) (get_or ys (j - 1) 0) 95) where
+    first_byte : get_or (sanitized xs) (j - 1) 0 ≡ a
+    first_byte = get_or_sanitized xs (j - 1) (omega arith) ∙ sym p
 
-    module _ {i : ℕ} (e : d ≡ Some i) where
-      alike_inside : i < n
-      alike_inside = omega (arith, difference_inside is e, front)
+    second_byte : get_or (sanitized ys) (j - 1) 0 ≡ b
+    second_byte = get_or_sanitized ys (j - 1) (omega (arith, s.long)) ∙ sym q
 
-      module _ {a b : ℕ} (p : a ≡ cond (is_plain (get_or xs i 0)) (get_or xs i 0) 95) (q : b ≡ cond (is_plain (get_or ys i 0)) (get_or ys i 0) 95) where
-        first_byte : get_or (sanitized xs) i 0 ≡ a
-        first_byte = get_or_sanitized xs i (omega (arith, alike_inside, s.high)) ∙ sym p
+    pub alike_no : (a ≡ b → ⊥) → false ≡ same (sanitized xs) (sanitized ys)
+    alike_no o = sym (same_differ _ _ (j - 1) (λ t. o (sym first_byte ∙ t ∙ second_byte)))
 
-        second_byte : get_or (sanitized ys) i 0 ≡ b
-        second_byte = get_or_sanitized ys i (omega (arith, alike_inside, s.high, s.long)) ∙ sym q
+    pub alike_more : a ≡ b → Alike xs ys (j - 1)
+    alike_more t = record { long = s.long; agree = agree_back (omega arith) s.agree (first_byte ∙ t ∙ sym second_byte) }
 
-        pub alike_no : (a ≡ b → ⊥) → false ≡ same (sanitized xs) (sanitized ys)
-        alike_no o = sym (same_differ _ _ i (λ t. o (sym first_byte ∙ t ∙ second_byte)))
-
-        pub alike_more : a ≡ b → Alike xs ys i
-        alike_more t =
-            record {
-              long = s.long;
-              high = omega (arith, alike_inside, s.high);
-              agree = agree_back refl (on (difference_behind is e)) (first_byte ∙ t ∙ sym second_byte);
-            }
-
-pub ruleset comparing = (unlike_long, alike_start, alike_no, alike_more, alike_yes)
+-- what the comparison goes on by
+pub ruleset comparing = (unlike_long, alike_start)
 
 -- ---- a name, and itself sanitized
 

@@ -4,7 +4,6 @@ ghost use Rattle.gfa_spec.specs.Bytes.{same};
 ghost use Rattle.normalize_spec.specs.Folding.{is_plain, sanitized};
 ghost use Rattle.writers.specs.Writers.{Puts};
 
-use scan::names::last_difference;
 use writers::writer::Writer;
 
 // The byte itself, or `_`.
@@ -31,7 +30,7 @@ pub fn put_sanitized(w: &mut Writer, s: &[u8])
     w.skip(s.len());
 }
 
-// Are two names the same, sanitized? From their ends, by the bytes that differ.
+// Are two names the same, sanitized? From their ends.
 #[tactic(auto, using(crate::proofs::Likeness::comparing))]
 pub fn same_sanitized(s: &[u8], t: &[u8]) -> bool
     ensures { result ≡ same (sanitized s.now) (sanitized t.now) }
@@ -39,13 +38,10 @@ pub fn same_sanitized(s: &[u8], t: &[u8]) -> bool
     if s.len() != t.len() {
         return false;
     }
-    let mut end = s.len();
-    // A leap from a difference to the one before it.
-    while let Some(i) = last_difference(&s[..end], &t[..end]) {
-        if plain_byte(s[i]) != plain_byte(t[i]) {
+    for i in (0..s.len()).rev() {
+        if s[i] != t[i] && plain_byte(s[i]) != plain_byte(t[i]) {
             return false;
         }
-        end = i;
     }
     true
 }
