@@ -92,10 +92,11 @@ pub fn free_suffix(news: &News, unit: SegmentNo, count: usize) -> usize
         n: news.a.n,
     };
     let id = news.segment_id(unit);
-    let mut suffix = next_suffix(news, id, count);
-    // Suffix after suffix, up to the first that is free.
-    while is_taken(&graph, id, count, suffix) {
-        suffix += 1;
+    for suffix in next_suffix(news, id, count).. {
+        if !is_taken(&graph, id, count, suffix) {
+            return suffix;
+        }
     }
-    suffix
+    // Never here: fewer suffixes are taken than there are.
+    unreachable!()
 }
