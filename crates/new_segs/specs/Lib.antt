@@ -1,3 +1,4 @@
 -- What the contracts of new segments say.
 pub mod Chains
 pub mod Makes
+pub mod ChainsLeft
