@@ -1,5 +1,5 @@
 -- Two strings of one length compared from the last byte back: the state, how it goes on, and what the answer says; and the name `*`. Assumes nothing.
-use Prim.Native.Nat.{ℕ, suc, ◌+◌, ◌-◌, ◌≤◌, ◌<◌}
+use Prim.Native.Nat.{ℕ, ◌+◌, ◌-◌, ◌≤◌, ◌<◌}
 use native.Mathlib.Omega.{arith}
 use mathlib.Core.Bool.{Bool, true, false}
 use mathlib.Core.List.{List, [], ◌∷◌}
@@ -42,20 +42,14 @@ module _ {xs ys : List ℕ} {r : Option ℕ} (is : DifferenceIs xs ys r) where
     last_at : LastAt xs ys i
     last_at = rw e at is.says
 
-    pub difference_inside : i < length xs
-    difference_inside = last_at.inside
-
-    pub difference_behind : AgreeFrom xs ys (suc i)
-    difference_behind = last_at.behind
-
-    pub difference_no : false ≡ same xs ys
+    difference_no : false ≡ same xs ys
     difference_no = sym (same_differ xs ys i last_at.differ)
 
   module _ (e : r ≡ None) where
-    pub difference_none : xs ≡ ys
+    difference_none : xs ≡ ys
     difference_none = rw e at is.says
 
-    pub difference_yes : true ≡ same xs ys
+    difference_yes : true ≡ same xs ys
     difference_yes = sym (equal_same xs ys difference_none)
 
 -- an answer that is yes where there is none
