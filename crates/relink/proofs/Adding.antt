@@ -34,7 +34,7 @@ use Rattle.normalize_tables.proofs.Sources.{standing}
 use Rattle.normalize_tables.proofs.NewByNumber.{ends_stand, new_paths_more, new_steps_next, new_steps_length, new_path_is, new_steps_alike, paths_words, first_kept, end_kept}
 use Rattle.normalize_tables.proofs.NewsStand.{new_step_kept, front_kept}
 use Rattle.relink.specs.declared.lookup.Pair.{Pair}
-use Rattle.relink.specs.declared.pairs.Tally.{Tally}
+use Rattle.relink.specs.declared.adder.Tally.{Tally}
 use Rattle.relink.specs.Relinking.{AddedRows, Ended, pair_no, PairIs, LinkFound, with_link, is_loop, AddsLinks, Grows, PairAdded, PathAdded, none_added, PathsAdded}
 use Rattle.link_ends.specs.LinkEnds.{Relinkable}
 use Rattle.link_ends.proofs.Endings.{relinkable_stands, ends_kept}
@@ -74,6 +74,14 @@ module _ {text w w' : List ℕ} {b : Bases} {n : Counts} {g : Layout} {m : Made}
             ends_kept (ends_stand g i o (inr s.source.placed.ends))
             (link_stands s.source.readable (front_kept s.source before_kept) i h) (e.ends i h);
       }
+
+-- a word more is stored behind the added links
+module _ {text w : List ℕ} {b : Bases} {n : Counts} {g : Layout} {m : Made} (s : Relinkable text w b n g m) (at step : ℕ) where
+  put_only : at < n.steps → Only (span g.added (g.added + n.steps) ∷ []) w (set w (g.added + at) step)
+  put_only h = only_set w (g.added + at) step (omega arith) (omega arith)
+
+  put_ready : at < n.steps → Relinkable text (set w (g.added + at) step) b n g m
+  put_ready h = relinkable_stands (before_kept s (put_only h)) (length-set w (g.added + at) step) s
 
 -- ---- one behind the other
 
@@ -115,8 +123,8 @@ unfolding bit
 with_loops s true = refl
 with_loops s false = omega arith
 
-module _ {text w : List ℕ} {b : Bases} {n : Counts} {g : Layout} {m : Made} {s : Tally} {step : ℕ} {p : Pair}
-    (k : Relinkable text w b n g m × AddedRows w n g m s.added) (h : (step + 1 < m.steps) × (s.added < n.steps) × (s.loops ≤ s.added)) (q : PairIs w n g m step p) where
+module _ {text w : List ℕ} {b : Bases} {n : Counts} {g : Layout} {m : Made} (s : Tally) {step : ℕ} {p : Pair}
+    (k : Relinkable text w b n g m × AddedRows w n g m s.added) (h : (step + 1 < m.steps) × (s.added < n.steps)) (q : PairIs w n g m step p) where
   -- a link has these parts
   pub pair_there : {r : Bool} → LinkFound text w b n g m s.added p r → r ≡ true → PairAdded text w w b n g m s step s
   unfolding missing
@@ -130,9 +138,6 @@ module _ {text w : List ℕ} {b : Bases} {n : Counts} {g : Layout} {m : Made} {s
   -- there is room for one more word
   put_room : g.added + s.added < length w
   put_room = let d = k.0.source.placed in omega (arith, d.ends, d.room)
-
-  put_only : Only (span g.added (g.added + n.steps) ∷ []) w (set w (g.added + s.added) step)
-  put_only = only_set w (g.added + s.added) step (omega arith) (omega arith)
 
   put_here : get_or (set w (g.added + s.added) step) (g.added + s.added) 0 ≡ step
   put_here = get_or-set_same w (g.added + s.added) step 0 put_room
@@ -151,7 +156,7 @@ module _ {text w : List ℕ} {b : Bases} {n : Counts} {g : Layout} {m : Made} {s
   unfolding keys_at key_at
   keys_before names =
       rows_kept (key_at names g.steps) 1 g.added s.added
-      (λ i l. rw (put_before i l) (pair_same k.0 put_only names (get_or w (g.added + 1 * i) 0) (k.1.keys.row i l).step))
+      (λ i l. rw (put_before i l) (pair_same k.0 (put_only k.0 s.added step h.1) names (get_or w (g.added + 1 * i) 0) (k.1.keys.row i l).step))
 
   -- the pair stands behind them
   keys_more : (names : List (List ℕ)) → keys_at names g.steps (set w (g.added + s.added) step) g.added (s.added + 1)
@@ -159,24 +164,24 @@ module _ {text w : List ℕ} {b : Bases} {n : Counts} {g : Layout} {m : Made} {s
   unfolding keys_at key_at
   keys_more names =
       let z : g.added + 1 * s.added ≡ g.added + s.added = omega arith in
-      rw (add-one, rows_snoc, keys_before names, z, put_here, pair_same k.0 put_only names step h.0)
+      rw (add-one, rows_snoc, keys_before names, z, put_here, pair_same k.0 (put_only k.0 s.added step h.1) names step h.0)
 
   pair_loop : {names : List (List ℕ)} {fs : List Segment} → Ended text names fs w b n g m → eqb p.first.node p.second.node ≡ is_loop (pair_no names w g step)
   unfolding same_new_node
   pair_loop {names} e = rw (q.first.step names, q.second.step names, same_place names p.first.node p.second.node e.apart (omega (arith, e.all)) (omega (arith, e.all)))
 
   -- none has them: the pair is added
-  pub pair_added : {f : Bool} {w' : List ℕ} {r : Tally} → LinkFound text w b n g m s.added p f → f ≡ false
-      → (w' ≡ set w (g.added + s.added) step) × (r ≡ with_link s (eqb p.first.node p.second.node)) → PairAdded text w w' b n g m s step r
+  pub pair_added : {f : Bool} {r : Tally} → LinkFound text w b n g m s.added p f → f ≡ false → r ≡ with_link s (eqb p.first.node p.second.node)
+      → PairAdded text w (set w (g.added + s.added) step) b n g m s step r
   unfolding missing
   pair_added f e put =
       let same = eqb p.first.node p.second.node in
-      let ra = ap (λ t. t.added) put.1 ∙ with_added s same in
-      let rl = ap (λ t. t.loops) put.1 ∙ with_loops s same in
-      rw put.0 (record {
-        ready = relinkable_stands (before_kept k.0 put_only) (length-set w (g.added + s.added) step) k.0;
+      let ra = ap (λ t. t.added) put ∙ with_added s same in
+      let rl = ap (λ t. t.loops) put ∙ with_loops s same in
+      record {
+        ready = put_ready k.0 s.added step h.1;
         adds = λ names fs d. record {
-          all = λ more. (let known = f.answer names fs d in rw (ra, keys_more names, links_same k.0 put_only, pair_key q names, ← known, e, append_assoc, append_assoc));
+          all = λ more. (let known = f.answer names fs d in rw (ra, keys_more names, links_same k.0 (put_only k.0 s.added step h.1), pair_key q names, ← known, e, append_assoc, append_assoc));
           loops = λ z. rl ∙ rw (ra, keys_more names, count_append, count_one, z, pair_loop d);
         };
         grows = record {
@@ -185,9 +190,9 @@ module _ {text w : List ℕ} {b : Bases} {n : Counts} {g : Layout} {m : Made} {s
           loops = omega (arith, bit_small same);
           rows = rw ra put_rows;
           long = length-set w (g.added + s.added) step;
-          only = put_only;
+          only = put_only k.0 s.added step h.1;
         };
-      })
+      }
 
 -- ---- the pairs of a path
 
@@ -211,13 +216,12 @@ pub record Pairing (text before work : List ℕ) (b : Bases) (n : Counts) (g : L
   pub high : k ≤ end
   pub inside : end ≤ m.steps
   pub room : s.added + (end - first) ≤ n.steps
-  pub loops : s.loops ≤ s.added
   pub adds : (names : List (List ℕ)) (fs : List Segment) → Ended text names fs before b n g m
       → AddsLinks text names fs before work b n g s now (adjacent (new_steps_from names before g first end)) (adjacent (new_steps_from names before g k end))
   pub grows : Grows before work n g m s now (k - first)
 
 module _ {text before : List ℕ} {b : Bases} {n : Counts} {g : Layout} {m : Made} {s : Tally} {first end : ℕ} where
-  pub pairing_start : Relinkable text before b n g m × AddedRows before n g m s.added → (first ≤ end) × (end ≤ m.steps) × (s.added + (end - first) ≤ n.steps) × (s.loops ≤ s.added)
+  pub pairing_start : Relinkable text before b n g m × AddedRows before n g m s.added → (first ≤ end) × (end ≤ m.steps) × (s.added + (end - first) ≤ n.steps)
       → Pairing text before before b n g m s first end s first
   pairing_start r h =
       record {
@@ -227,7 +231,6 @@ module _ {text before : List ℕ} {b : Bases} {n : Counts} {g : Layout} {m : Mad
         high = h.0;
         inside = h.1;
         room = h.2;
-        loops = h.3;
         adds = λ names fs e. record { all = λ more. refl; loops = λ z. z };
         grows = grows_none (first - first) r.1;
       }
@@ -242,7 +245,6 @@ module _ {text before : List ℕ} {b : Bases} {n : Counts} {g : Layout} {m : Mad
           high = omega arith;
           inside = p.inside;
           room = p.room;
-          loops = p.loops;
           adds = λ names fs e.
               adds_then (pair_no names work g k ∷ []) (adjacent (new_steps_from names before g (k + 1) end)) (here names)
               (p.adds names fs e) (q.adds names fs (ended_stands p.relinkable p.grows.only e));

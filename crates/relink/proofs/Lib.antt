@@ -1,5 +1,5 @@
 -- Laws of the links, in reading order.
 pub mod Lookups
 pub mod Adding
-pub mod Relinkers
+pub mod Adders
 pub mod Settled

@@ -94,10 +94,10 @@ regroup true false false t = refl
 regroup false y z t = refl
 
 module _ (text : List ℕ) {work : List ℕ} (b : Bases) {n : Counts} {g : Layout} {m : Made} (p : Pair) {i : ℕ}
-    (s : PairThere n m p × (i < n.links)) {e : Ends} (f : e ≡ ends_no work g i) where
+    (s : PairThere n m p) (l : i < n.links) {e : Ends} (f : e ≡ ends_no work g i) where
   -- its row says whether it is removed
   match_gone : (names : List (List ℕ)) (fs : List Segment) → Ended text names fs work b n g m → e.gone ≡ is_removed fs (link_no text work b i)
-  match_gone names fs d = rw (f, (d.ends i s.1).gone)
+  match_gone names fs d = rw (f, (d.ends i l).gone)
 
   pub match_removed : e.gone ≡ true → LinkMatch text work b n g m p i false
   match_removed h = record { answer = λ names fs d. rw (← match_gone names fs d, h) }
@@ -108,9 +108,9 @@ module _ (text : List ℕ) {work : List ℕ} (b : Bases) {n : Counts} {g : Layou
         → (nodes_are p e && (eqb (sign_of p.first.mark) (link_no text work b i).from_orientation && eqb (sign_of p.second.mark) (link_no text work b i).to_orientation)) ≡ (not (is_removed fs (link_no text work b i)) && same_key (key_in names p) (key_of (link_no text work b i)))
     unfolding same_key key_of
     match_all names fs d =
-        let row = d.ends i s.1 in
-        let from = end_says names d.apart p.first e.from (link_no text work b i).from_orientation (link_no text work b i).from (omega (arith, s.0, d.all)) (rw f row.from) in
-        let to = end_says names d.apart p.second e.to (link_no text work b i).to_orientation (link_no text work b i).to (omega (arith, s.0, d.all)) (rw f row.to) in
+        let row = d.ends i l in
+        let from = end_says names d.apart p.first e.from (link_no text work b i).from_orientation (link_no text work b i).from (omega (arith, s, d.all)) (rw f row.from) in
+        let to = end_says names d.apart p.second e.to (link_no text work b i).to_orientation (link_no text work b i).to (omega (arith, s, d.all)) (rw f row.to) in
         rw (← match_gone names fs d, h, ← from, ← to) (regroup (option_eq eqb e.from (Some p.first.node)) (eqb (sign_of p.first.mark) (link_no text work b i).from_orientation) _ _)
 
     module _ {r : Bool} (q : r ≡ nodes_are p e) where
@@ -175,10 +175,10 @@ pub added_step : {work : List ℕ} {n : Counts} {g : Layout} {m : Made} {added i
 added_step {g = g} {i = i} s h e = let z : g.added + 1 * i ≡ g.added + i = omega arith in rw e (rw z at (s.keys.row i h).step)
 
 module _ {work : List ℕ} {n : Counts} {g : Layout} {m : Made} {added : ℕ} {p : Pair} where
-  pub comparing_start : AddedRows work n g m added × PairThere n m p → Comparing work n g m added p 0
+  pub comparing_start : AddedRows work n g m added → PairThere n m p → Comparing work n g m added p 0
   unfolding keys_at
-  comparing_start h =
-      record { rows = h.0; there = h.1; high = omega arith; left = λ names d l. rw (← rows_all (key_at names g.steps) 1 work g.added added) }
+  comparing_start r h =
+      record { rows = r; there = h; high = omega arith; left = λ names d l. rw (← rows_all (key_at names g.steps) 1 work g.added added) }
 
   module _ {i : ℕ} (s : Comparing work n g m added p i) where
     module _ {t : ℕ} {other : Pair} {r : Bool} (h : i < added) (e : t ≡ get_or work (g.added + i) 0) (o : PairIs work n g m t other) (q : r ≡ pair_eq p other) where

@@ -26,7 +26,7 @@ use Rattle.normalize_tables.specs.NewByNumber.{ends_end, new_paths_to}
 use Rattle.normalize_tables.proofs.Nodes.{names_length}
 use Rattle.normalize_tables.proofs.Sources.{standing}
 use Rattle.normalize_tables.proofs.NewsStand.{names_kept, paths_kept, front_kept}
-use Rattle.relink.specs.declared.pairs.Tally.{Tally}
+use Rattle.relink.specs.declared.adder.Tally.{Tally}
 use Rattle.relink.specs.Relinking.{Ended, kept_keys, is_loop, PathsAdded, SettledIs}
 use Rattle.link_ends.specs.LinkEnds.{Relinkable, AllEnds}
 use Rattle.relink.proofs.Adding.{before_kept, ended_stands}
@@ -129,17 +129,20 @@ module _ {text w v : List ℕ} {b : Bases} {n : Counts} {g : Layout} {m : Made} 
               ((ends, tt), (added, tt)))));
         }
 
--- where the work area comes back from a relinker
-module _ {text w v u x : List ℕ} {b : Bases} {n : Counts} {g : Layout} {m : Made} {removed all : ℕ} {t : Tally} (s : Relinkable text w b n g m) (a : AllEnds text w v b n g m removed)
-    (c : PathsAdded text v u b n g m t) (e : all ≡ count is_self_link (links_to text x b n.links)) (z : x ≡ u) where
+-- where the work area comes back from a relinker, and from an adder
+module _ {text w v y u x : List ℕ} {b : Bases} {n : Counts} {g : Layout} {m : Made} {removed all : ℕ} {t : Tally} (s : Relinkable text w b n g m) (a : AllEnds text w v b n g m removed)
+    (c : PathsAdded text y u b n g m t) (e : all ≡ count is_self_link (links_to text x b n.links)) (i : y ≡ v) (z : x ≡ u) where
+  same_added : PathsAdded text v u b n g m t
+  same_added = rw i at c
+
   same_all : all ≡ count is_self_link (links_to text u b n.links)
   same_all = rw z at e
 
   pub removed_given : removed ≤ all
-  removed_given = settle_removed s a c same_all
+  removed_given = settle_removed s a same_added same_all
 
   pub fits_given : all - removed + t.loops < 18446744073709551616
-  fits_given = settle_fits s a c same_all
+  fits_given = settle_fits s a same_added same_all
 
   pub settled_given : SettledIs text w x b n g m (record { added = t.added; removed = removed; loops = all - removed + t.loops })
-  settled_given = rw z (settled s a c same_all)
+  settled_given = rw z (settled s a same_added same_all)

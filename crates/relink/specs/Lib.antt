@@ -1,3 +1,4 @@
 -- What the contracts of the links say.
 pub mod Relinking
-pub mod Relinkers
+pub mod Sought
+pub mod Adders

@@ -22,12 +22,12 @@ use Rattle.normalize_tables.specs.Rewritten.{Relinked}
 use Rattle.normalize_tables.specs.declared.rows.Ends.{Ends}
 use Rattle.link_ends.specs.LinkEnds.{Relinkable, EndsRow}
 use Rattle.relink.specs.declared.lookup.Pair.{Pair}
-use Rattle.relink.specs.declared.pairs.Tally.{Tally}
+use Rattle.relink.specs.declared.adder.Tally.{Tally}
 use Rattle.relink.specs.declared.settle.Links.{Links}
 
 -- ---- pairs and links
 
--- The first `added` words of the added links may be relied on, and there is room for them: of no value alone, since each call has another number.
+-- The first `added` words of the added links may be relied on, and there is room for them.
 pub record AddedRows (work : List ℕ) (n : Counts) (g : Layout) (m : Made) (added : ℕ) : Type 0 where
   pub keys : EachRow (KeyRow m.steps) 1 work g.added added
   pub high : added ≤ n.steps

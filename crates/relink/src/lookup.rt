@@ -1,5 +1,6 @@
 // Is there a link of exactly the four parts of a pair of new steps? Nodes are compared by their numbers.
 ghost use Rattle.std.specs.Prelude.{◌≡◌, ◌+◌, ◌<◌};
+ghost use Rattle.std.proofs.Props.{props};
 ghost use Rattle.relink.specs.Relinking.{AddedRows, PairThere, PairIs, nodes_are, marks_are, LinkMatch, KeptIs, AddedMatch, LinkFound};
 
 use normalize_tables::new_graph::NewGraph;
@@ -41,54 +42,76 @@ pub fn has_marks(p: Pair, leaves: Orientation, enters: Orientation) -> bool
     p.first.mark == leaves && p.second.mark == enters
 }
 
-// Is link `i` of the text kept, with the parts of the pair? Its row is read only where it has the nodes.
-#[tactic(auto, using(crate::proofs::Lookups::matching))]
-pub fn is_link(graph: &NewGraph, p: Pair, i: LinkNo) -> bool
-    requires { PairThere graph.now.a.n graph.now.a.m p × (i.0 < graph.now.a.n.links) }
-    ensures { LinkMatch graph.now.text.now graph.now.work.now graph.now.a.b graph.now.a.n graph.now.a.g graph.now.a.m p i.0 result }
-{
-    let e = graph.ends(i);
-    if e.gone || !has_nodes(p, e) {
-        return false;
-    }
-    let l = graph.link(i);
-    has_marks(p, l.leaves, l.enters)
+// A pair of new steps of a graph, for which a link is sought.
+#[derive(Clone, Copy)]
+pub struct Sought<'a> {
+    pub graph: NewGraph<'a>,
+    pub pair: Pair,
+    ghost there: { PairThere graph.a.n graph.a.m pair } by { Prim.hlevel props },
 }
 
-// Has a kept link of the text the parts of the pair?
-#[tactic(auto, using(crate::proofs::Lookups::seeking))]
-pub fn kept_link(graph: &NewGraph, p: Pair) -> bool
-    requires { PairThere graph.now.a.n graph.now.a.m p }
-    ensures { KeptIs graph.now.text.now graph.now.work.now graph.now.a.b graph.now.a.n graph.now.a.g graph.now.a.m p result }
-{
-    for i in 0..graph.a.n.links {
-        if is_link(graph, p, LinkNo(i as u32)) {
-            return true;
+impl<'a> Sought<'a> {
+    ghost use Rattle.relink.specs.Sought.{SoughtIs};
+
+    // The pair of new step `step` and the step behind it.
+    pub fn at(graph: &NewGraph<'a>, step: usize) -> Sought<'a>
+        requires { step + 1 < graph.now.a.m.steps }
+        ensures { SoughtIs graph.now step result }
+    {
+        Sought {
+            graph: *graph,
+            pair: pair_at(graph, step),
         }
     }
-    false
-}
 
-// Has one of the `added` links the parts of the pair?
-#[tactic(auto, using(crate::proofs::Lookups::comparing))]
-pub fn added_link(graph: &NewGraph, added: usize, p: Pair) -> bool
-    requires { AddedRows graph.now.work.now graph.now.a.n graph.now.a.g graph.now.a.m added × PairThere graph.now.a.n graph.now.a.m p }
-    ensures { AddedMatch graph.now.work.now graph.now.a.n graph.now.a.g graph.now.a.m added p result }
-{
-    for i in 0..added {
-        let other = pair_at(graph, word(graph.work, graph.a.g.added + i));
-        if p == other {
-            return true;
+    // Is link `i` of the text kept, with the parts of the pair? Its row is read only where it has the nodes.
+    #[tactic(auto, using(crate::proofs::Lookups::matching))]
+    pub fn is_link(&self, i: LinkNo) -> bool
+        requires { i.0 < self.now.graph.a.n.links }
+        ensures { let graph = self.now.graph in LinkMatch graph.text.now graph.work.now graph.a.b graph.a.n graph.a.g graph.a.m self.now.pair i.0 result }
+    {
+        let e = self.graph.ends(i);
+        if e.gone || !has_nodes(self.pair, e) {
+            return false;
         }
+        let l = self.graph.link(i);
+        has_marks(self.pair, l.leaves, l.enters)
     }
-    false
-}
 
-// Has a kept link of the text, or one of the `added` links, the parts of the pair?
-#[tactic(auto, using(crate::proofs::Lookups::found_kept, crate::proofs::Lookups::found_added))]
-pub fn find_link(graph: &NewGraph, added: usize, p: Pair) -> bool
-    requires { AddedRows graph.now.work.now graph.now.a.n graph.now.a.g graph.now.a.m added × PairThere graph.now.a.n graph.now.a.m p }
-    ensures { LinkFound graph.now.text.now graph.now.work.now graph.now.a.b graph.now.a.n graph.now.a.g graph.now.a.m added p result }
-{
-    kept_link(graph, p) || added_link(graph, added, p)
+    // Has a kept link of the text the parts of the pair?
+    #[tactic(auto, using(crate::proofs::Lookups::seeking))]
+    pub fn kept_link(&self) -> bool
+        ensures { let graph = self.now.graph in KeptIs graph.text.now graph.work.now graph.a.b graph.a.n graph.a.g graph.a.m self.now.pair result }
+    {
+        for i in 0..self.graph.a.n.links {
+            if self.is_link(LinkNo(i as u32)) {
+                return true;
+            }
+        }
+        false
+    }
+
+    // Has one of the `added` links the parts of the pair?
+    #[tactic(auto, using(crate::proofs::Lookups::comparing))]
+    pub fn added_link(&self, added: usize) -> bool
+        requires { let graph = self.now.graph in AddedRows graph.work.now graph.a.n graph.a.g graph.a.m added }
+        ensures { let graph = self.now.graph in AddedMatch graph.work.now graph.a.n graph.a.g graph.a.m added self.now.pair result }
+    {
+        for i in 0..added {
+            let other = pair_at(&self.graph, word(self.graph.work, self.graph.a.g.added + i));
+            if self.pair == other {
+                return true;
+            }
+        }
+        false
+    }
+
+    // Has a kept link of the text, or one of the `added` links, the parts of the pair?
+    #[tactic(auto, using(crate::proofs::Lookups::found_kept, crate::proofs::Lookups::found_added))]
+    pub fn find_link(&self, added: usize) -> bool
+        requires { let graph = self.now.graph in AddedRows graph.work.now graph.a.n graph.a.g graph.a.m added }
+        ensures { let graph = self.now.graph in LinkFound graph.text.now graph.work.now graph.a.b graph.a.n graph.a.g graph.a.m added self.now.pair result }
+    {
+        self.kept_link() || self.added_link(added)
+    }
 }

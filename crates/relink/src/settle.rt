@@ -2,6 +2,7 @@
 ghost use Rattle.relink.specs.Relinking.{SettledIs};
 ghost use Rattle.link_ends.specs.LinkEnds.{Relinkable};
 
+use crate::adder::{Adder, Tally};
 use crate::pairs::add_paths;
 use link_ends::ends::put_all_ends;
 use link_ends::relinker::Relinker;
@@ -24,7 +25,14 @@ pub fn settle_links(text: &[u8], work: &mut [u32], a: Area) -> Links
 {
     let mut links = Relinker { text, work, a };
     let removed = put_all_ends(&mut links);
-    let tally = add_paths(&mut links);
+    let mut adder = Adder {
+        text,
+        work,
+        a,
+        tally: Tally { added: 0, loops: 0 },
+    };
+    add_paths(&mut adder);
+    let tally = adder.tally;
     let graph = Graph {
         text,
         work,

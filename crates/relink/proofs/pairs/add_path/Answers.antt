@@ -1,19 +1,20 @@
 use Prim.Native.Nat.{◌+◌, ◌-◌}
 use native.Mathlib.Omega.{arith}
 use mathlib.Core.Path.{◌≡◌}
-use Rattle.link_ends.proofs.Relinkers.{same_none, same_then}
+use Rattle.relink.proofs.Adders.{same_none, same_then}
 use Rattle.relink.proofs.Adding.{pairing_start, pairing_more, pairing_end}
 use Rattle.relink.proofs.pairs.add_path.Goals as goal
 
 pub loop-k-init : goal.loop-k-init
 loop-k-init c =
+    let a = c.args.adder.now in
     let e : c.args.first + 1 - 1 ≡ c.args.first = omega arith in
-    (same_none, rw e (pairing_start (c.args.links.now.relinkable, c.requires.rows) c.requires.first_le_end))
+    (same_none, rw e (pairing_start (a.relinkable, a.rows) c.requires))
 
 pub loop-k-preserved : goal.loop-k-preserved
 loop-k-preserved c =
     let s = c.loop-k.invariant.0 in
-    let q = c.add_pair-now.ensures in
+    let q = c.add_pair.ensures in
     let e : c.loop-k.k + 1 - 1 ≡ c.loop-k.k - 1 + 1 = omega arith in
     (same_then s q.same, rw e (pairing_more c.loop-k.invariant.1 (omega arith) (rw (s.text, s.area) at q.adds)))
 

@@ -1,23 +1,21 @@
-use native.Mathlib.Omega.{arith}
-use Rattle.link_ends.proofs.Relinkers.{same_none, same_then}
+use Rattle.relink.proofs.Adders.{same_none, same_then, path_in}
 use Rattle.relink.proofs.Adding.{passing_start, passing_room, passing_more, passing_end}
-use Rattle.relink.proofs.Relinkers.{path_in}
 use Rattle.relink.proofs.pairs.add_paths.Goals as goal
 
 pub loop-p-init : goal.loop-p-init
-loop-p-init c = (same_none, passing_start c.args.links.now.relinkable)
+loop-p-init c = (same_none, rw c.requires (passing_start c.args.adder.now.relinkable))
 
-pub add_path-s-requires-clause-first_le_end : goal.add_path-s-requires-clause-first_le_end
-add_path-s-requires-clause-first_le_end c =
+pub add_path-requires : goal.add_path-requires
+add_path-requires c =
     let s = c.loop-p.invariant.0 in
     let q = c.loop-p.invariant.1 in
     let path = path_in c.graph.ensures c.new_path-path.ensures in
-    (path.low, path.high, rw s.area (passing_room q c.loop-p-test.true (rw s.area at path)), omega (arith, q.grows.loops))
+    (path.low, path.high, rw s.area (passing_room q c.loop-p-test.true (rw s.area at path)))
 
 pub loop-p-preserved : goal.loop-p-preserved
 loop-p-preserved c =
     let s = c.loop-p.invariant.0 in
-    let q = c.add_path-s.ensures in
+    let q = c.add_path.ensures in
     let path = rw s.area at (path_in c.graph.ensures c.new_path-path.ensures) in
     (same_then s q.same, passing_more c.loop-p.invariant.1 c.loop-p-test.true path (rw (s.text, s.area) at q.adds))
 

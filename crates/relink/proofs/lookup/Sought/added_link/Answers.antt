@@ -1,5 +1,5 @@
 use Rattle.relink.proofs.Lookups.{added_step, comparing_more}
-use Rattle.relink.proofs.lookup.added_link.Goals as goal
+use Rattle.relink.proofs.lookup.Sought.added_link.Goals as goal
 
 pub pair_at-other-requires : goal.pair_at-other-requires
 pair_at-other-requires c = search added_step
