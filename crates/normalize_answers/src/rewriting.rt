@@ -15,6 +15,7 @@ use refusals::reason::Reason;
 use refusals::refusal::Refusal;
 use relink::settle::{Links, settle_links};
 use rewrite::rewritten::put_rewritten;
+use rewrite::settled_graph::SettledGraph;
 use runs::counts::Pairs;
 use tables::tables::{Bases, Counts};
 use writers::writer::Writer;
@@ -68,15 +69,16 @@ pub fn write_text(
     ensures { WriteIs text.now work.now a.b a.n a.g a.m extra stats out.old out.new result }
 {
     let graph = NewGraph { text, work, a };
+    let settled = SettledGraph { graph, extra };
     let room = out.len();
     let mut nothing = [0u8; 0];
     let mut w = Writer::new(&mut nothing, room + 1);
-    put_rewritten(&mut w, &graph, extra);
+    put_rewritten(&mut w, &settled);
     let need = w.at;
     if room < need {
         return Err(Refusal::of(Reason::ShortOutput));
     }
-    put_rewritten(&mut Writer::new(out, room + 1), &graph, extra);
+    put_rewritten(&mut Writer::new(out, room + 1), &settled);
     Ok(Written {
         length: need,
         stats,

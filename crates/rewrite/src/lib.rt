@@ -5,3 +5,4 @@ pub mod lines;
 pub mod links;
 pub mod news;
 pub mod rewritten;
+pub mod settled_graph;

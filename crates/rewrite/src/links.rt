@@ -1,12 +1,11 @@
 // The lines of the kept links and of the added ones.
-ghost use Rattle.std.specs.Prelude.{◌+◌, ◌≤◌, ◌<◌};
-ghost use Rattle.work.specs.Rows.{EachRow};
-ghost use Rattle.normalize_tables.specs.News.{KeyRow};
+ghost use Rattle.std.specs.Prelude.{◌+◌, ◌<◌};
 ghost use Rattle.normalize_tables.specs.NewByNumber.{new_step_no};
 ghost use Rattle.normalize_tables.specs.NodeIds.{graph_ids};
 ghost use Rattle.writers.specs.Writers.{Puts, pieces_to};
 ghost use Rattle.rewrite.specs.Pieces.{kept_piece, step_end, pair_line, added_piece};
 
+use crate::settled_graph::SettledGraph;
 use new_ids::ids::put_id;
 use normalize_tables::new_graph::NewGraph;
 use normalize_tables::news::News;
@@ -26,7 +25,7 @@ pub fn put_kept_link(w: &mut Writer, graph: &NewGraph, i: LinkNo)
     put_line(w, graph.link(i).line.of(graph.text));
 }
 
-// The lines of the kept links.
+// The lines of the kept links: one `for`, as `put_paths` is over another table. A function that takes what to do in each turn would be longer.
 pub fn put_kept_links(w: &mut Writer, graph: &NewGraph)
     ensures { Puts w.old (pieces_to (kept_piece graph.now.text.now graph.now.work.now graph.now.a.b graph.now.a.g) graph.now.a.n.links) w.new }
 {
@@ -60,12 +59,11 @@ pub fn put_added_link(w: &mut Writer, graph: &NewGraph, k: usize)
 }
 
 // The lines of the added links.
-pub fn put_added_links(w: &mut Writer, graph: &NewGraph, extra: usize)
-    requires { (extra ≤ graph.now.a.m.steps) × EachRow (KeyRow graph.now.a.m.steps) 1 graph.now.work.now graph.now.a.g.added extra }
-    ensures { Puts w.old (pieces_to (added_piece (graph_ids graph.now) graph.now.work.now graph.now.a.g) extra) w.new }
+pub fn put_added_links(w: &mut Writer, settled: &SettledGraph)
+    ensures { Puts w.old (pieces_to (added_piece (graph_ids settled.now.graph) settled.now.graph.work.now settled.now.graph.a.g) settled.now.extra) w.new }
 {
-    for i in 0..extra {
-        let k = word(graph.work, graph.a.g.added + i);
-        put_added_link(w, graph, k);
+    for i in 0..settled.extra {
+        let k = word(settled.graph.work, settled.graph.a.g.added + i);
+        put_added_link(w, &settled.graph, k);
     }
 }

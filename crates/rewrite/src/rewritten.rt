@@ -1,13 +1,11 @@
 // The rewritten text, section by section.
-ghost use Rattle.std.specs.Prelude.{◌≤◌};
-ghost use Rattle.work.specs.Rows.{EachRow};
-ghost use Rattle.normalize_tables.specs.News.{KeyRow};
 ghost use Rattle.writers.specs.Writers.{Puts};
 ghost use Rattle.rewrite.specs.Rewriting.{front_at, back_at, WroteText};
 
 use crate::lines::{Class, put_raw, put_segments};
 use crate::links::{put_added_links, put_kept_links};
 use crate::news::put_new_segments;
+use crate::settled_graph::SettledGraph;
 use normalize_tables::new_graph::NewGraph;
 use normalize_tables::news::News;
 use path_lines::paths::put_paths;
@@ -33,20 +31,18 @@ pub fn put_front(w: &mut Writer, graph: &NewGraph)
 }
 
 // The kept links, the added links, and the paths.
-pub fn put_back(w: &mut Writer, graph: &NewGraph, extra: usize)
-    requires { (extra ≤ graph.now.a.m.steps) × EachRow (KeyRow graph.now.a.m.steps) 1 graph.now.work.now graph.now.a.g.added extra }
-    ensures { Puts w.old (back_at graph.now.text.now graph.now.work.now graph.now.a.b graph.now.a.n graph.now.a.g graph.now.a.m extra) w.new }
+pub fn put_back(w: &mut Writer, settled: &SettledGraph)
+    ensures { let graph = settled.now.graph in Puts w.old (back_at graph.text.now graph.work.now graph.a.b graph.a.n graph.a.g graph.a.m settled.now.extra) w.new }
 {
-    put_kept_links(w, graph);
-    put_added_links(w, graph, extra);
-    put_paths(w, graph);
+    put_kept_links(w, &settled.graph);
+    put_added_links(w, settled);
+    put_paths(w, &settled.graph);
 }
 
 // The rewritten text.
-pub fn put_rewritten(w: &mut Writer, graph: &NewGraph, extra: usize)
-    requires { EachRow (KeyRow graph.now.a.m.steps) 1 graph.now.work.now graph.now.a.g.added extra × (extra ≤ graph.now.a.m.steps) }
-    ensures { WroteText w.old graph.now.text.now graph.now.work.now graph.now.a.b graph.now.a.n graph.now.a.g graph.now.a.m extra w.new }
+pub fn put_rewritten(w: &mut Writer, settled: &SettledGraph)
+    ensures { let graph = settled.now.graph in WroteText w.old graph.text.now graph.work.now graph.a.b graph.a.n graph.a.g graph.a.m settled.now.extra w.new }
 {
-    put_front(w, graph);
-    put_back(w, graph, extra);
+    put_front(w, &settled.graph);
+    put_back(w, settled);
 }

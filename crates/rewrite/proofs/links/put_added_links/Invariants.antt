@@ -5,4 +5,5 @@ use Rattle.rewrite.specs.Pieces.{added_piece}
 use Rattle.rewrite.proofs.links.put_added_links.Given as goal
 
 abbrev pub invariant-loop-i : goal.invariant-loop-i
-invariant-loop-i l = Puts l.initial.w (pieces_to (added_piece (nodes l.graph.text.now l.graph.work.now l.graph.a.b l.graph.a.n l.graph.a.g l.graph.a.m) l.graph.work.now l.graph.a.g) l.i) l.w
+invariant-loop-i l =
+    let graph = l.settled.graph in Puts l.initial.w (pieces_to (added_piece (nodes graph.text.now graph.work.now graph.a.b graph.a.n graph.a.g graph.a.m) graph.work.now graph.a.g) l.i) l.w
