@@ -31,7 +31,7 @@ pub struct Adder<'a> {
 impl<'a> Adder<'a> {
     ghost use Rattle.relink.specs.Adders.{AddsIn};
 
-    // The graph to which links are added.
+    // The graph to which links are added, as `Relinker::graph`: each lends the work area that it holds.
     pub fn graph(&self) -> NewGraph<'_>
         ensures { AddsIn self.now result }
     {
