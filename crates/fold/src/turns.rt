@@ -11,12 +11,11 @@ use crate::folding::Folding;
 use new_segs::chains::made_for;
 use new_segs::segs::make_segment;
 use normalize_tables::layout::{Area, Layout};
-use normalize_tables::rows::{NewStepWords, put_new_step};
+use normalize_tables::rows::{NewStepWords, is_marked, put_new_step};
 use scan::orientation::Orientation;
 use scan::places::Place;
 use tables::entry::SegmentNo;
 use tables::graph::Graph;
-use work::work::word;
 
 // Puts rows of `count` equal new steps from new step `k` on.
 pub fn put_steps(work: &mut [u32], g: Layout, k: usize, r: NewStepWords, count: usize)
@@ -42,7 +41,7 @@ pub fn is_folded(work: &[u32], g: Layout, unit: SegmentNo, count: usize) -> bool
     requires { g.folded + unit.0 < length work.now }
     ensures { FoldedIs work.now g unit.0 count result }
 {
-    2 <= count && word(work, g.folded + unit.0 as usize) == 1
+    2 <= count && is_marked(work, g.folded + unit.0 as usize)
 }
 
 // The node of the new segment of the unit and the run length, which is made where there is none.

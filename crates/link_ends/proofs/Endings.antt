@@ -10,7 +10,7 @@ use lib.Dec.{eqb}
 use lib.ListN.{length, get_or}
 use borrow.Author.Tests.{not-true, not-false}
 use borrow.Author.Count.{below_more}
-use Rattle.gfa_spec.specs.Bytes.{count, keep}
+use Rattle.gfa_spec.specs.Bytes.{count, keep, distinct}
 use Rattle.gfa_spec.specs.Reading.{Segment, Link}
 use Rattle.gfa_spec.specs.Records.{is_self_link}
 use Rattle.gfa_spec.specs.Runs.{bit}
@@ -78,14 +78,14 @@ module _ {text w : List ℕ} {b : Bases} {n : Counts} {g : Layout} (l : LinkWord
     unfolding is_removed
     gone_turned h = stays (λ p more k f. rw (sym (eq_signs l.leaves l.enters) ∙ not-true _ (sym d ∙ h)) (by_test (is_self_link (link_of text l)) (λ e. rw e) (λ e. rw e)))
 
-  module _ (s : Source text w b n g) where
+  module _ (apart : distinct (ids_of (segments_of text w b n)) ≡ true) where
     -- the first node is no segment of the text
     unknown : ((k : ℕ) → from ≡ Some k → n.segs ≤ k) → GoneIs text w b n g l from false
     unfolding is_removed
     unknown z =
         stays (λ p more k f.
         (let none_so = place_other (segments_of text w b n) more (bytes_in text l.from) (λ j e. rw segments_length (z j (f ∙ e))) in
-        rw (any_keep, passes_none text w b n s.apart (bytes_in text l.from) p none_so) (simp and-false)))
+        rw (any_keep, passes_none text w b n apart (bytes_in text l.from) p none_so) (simp and-false)))
 
     pub gone_unknown : from ≡ None → GoneIs text w b n g l from false
     gone_unknown e = unknown (λ k f. absurd (None-ne-Some k (sym e ∙ f)))
@@ -95,17 +95,17 @@ module _ {text w : List ℕ} {b : Bases} {n : Counts} {g : Layout} (l : LinkWord
       gone_new h = unknown (λ j f. let one : j ≡ k = cc in omega arith)
 
       -- the mark decides
-      module _ (low : k < n.segs) {self turned : Bool} {mark : ℕ} (q : self ≡ is_self_link (link_of text l)) (t : self ≡ true) (d : turned ≡ not (sameb the_type l.leaves l.enters)) (h : turned ≡ false)
-          (m : mark ≡ get_or w (g.folded + k) 0) where
-        by_mark : Goes text w b n g l from (eqb mark 1)
+      module _ (low : k < n.segs) {self turned marked : Bool} (q : self ≡ is_self_link (link_of text l)) (t : self ≡ true) (d : turned ≡ not (sameb the_type l.leaves l.enters)) (h : turned ≡ false)
+          (m : marked ≡ eqb (get_or w (g.folded + k) 0) 1) where
+        pub gone_marked : GoneIs text w b n g l from marked
         unfolding is_removed
-        by_mark p more x f =
-            let number = place_segment (segments_of text w b n) more (bytes_in text l.from) k (sym f ∙ e) (rw segments_length low) in
-            rw (sym q ∙ t, sym (eq_signs l.leaves l.enters) ∙ not-false _ (sym d ∙ h), any_keep)
-            (passes_named text w b n s.apart (bytes_in text l.from) p k number low ∙ rw (m, x.mark k low, bit_set))
-
-        pub gone_marked : GoneIs text w b n g l from (eqb mark 1)
-        gone_marked = record { answer = λ p more x f. sym (by_mark p more x f); few = rw (sym q ∙ t) (unfold bit in bit_small (eqb mark 1)) }
+        gone_marked = record { answer = λ p more x f. sym (by_mark p more x f); few = rw (sym q ∙ t) (unfold bit in bit_small marked) }
+          where
+            by_mark : Goes text w b n g l from marked
+            by_mark p more x f =
+                let number = place_segment (segments_of text w b n) more (bytes_in text l.from) k (sym f ∙ e) (rw segments_length low) in
+                rw (sym q ∙ t, sym (eq_signs l.leaves l.enters) ∙ not-false _ (sym d ∙ h), any_keep)
+                (passes_named text w b n apart (bytes_in text l.from) p k number low ∙ rw (m, x.mark k low, bit_set))
 
 -- the ends, by the searches for their nodes
 pub ends_are : {text w : List ℕ} {b : Bases} {n : Counts} {g : Layout} {m : Made} {l : LinkWords} {from to : Option ℕ} {gone : Bool} → Source text w b n g → NewRows w n g m

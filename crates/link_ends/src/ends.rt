@@ -1,7 +1,9 @@
 // The ends of the links of the text as node numbers, three words a link, and which links are removed (document 01, "Folding", rule 6).
-ghost use Rattle.std.specs.Prelude.{◌+◌, ◌<◌};
+ghost use Rattle.std.specs.Prelude.{◌≡◌, ◌+◌, ◌≤◌, ◌<◌, true, length};
+ghost use Rattle.gfa_spec.specs.Bytes.{distinct};
 ghost use Rattle.scan.specs.Places.{Inside};
-ghost use Rattle.normalize_tables.specs.Layout.{Source};
+ghost use Rattle.tables.specs.Segments.{ids_of};
+ghost use Rattle.tables.specs.ByNumber.{segments_of};
 ghost use Rattle.link_ends.specs.LinkEnds.{GoneIs, EndsIs};
 ghost use Rattle.link_ends.specs.Relinkers.{SettlesEnds, SettlesAllEnds};
 
@@ -10,16 +12,17 @@ use new_ids::ids::find_node;
 use normalize_tables::layout::Layout;
 use normalize_tables::new_graph::NewGraph;
 use normalize_tables::news::News;
-use normalize_tables::rows::{Ends, put_ends};
+use normalize_tables::rows::{Ends, is_marked, put_ends};
 use runs::counts::is_self_link;
 use tables::entry::LinkNo;
 use tables::graph::Graph;
 use tables::rows::LinkWords;
-use work::work::word;
 
 // Is the link removed? `from` is the number of its first node.
 pub fn is_gone(graph: &Graph, g: Layout, l: LinkWords, from: Option<usize>) -> bool
-    requires { Source graph.now.text.now graph.now.work.now graph.now.b graph.now.n g × Inside graph.now.text.now l.from × Inside graph.now.text.now l.to }
+    requires marks_in { g.folded + graph.now.n.segs ≤ length graph.now.work.now }
+    requires apart { distinct (ids_of (segments_of graph.now.text.now graph.now.work.now graph.now.b graph.now.n)) ≡ true }
+    requires ends_in { Inside graph.now.text.now l.from × Inside graph.now.text.now l.to }
     ensures { GoneIs graph.now.text.now graph.now.work.now graph.now.b graph.now.n g l from result }
 {
     let Some(k) = from else {
@@ -28,7 +31,7 @@ pub fn is_gone(graph: &Graph, g: Layout, l: LinkWords, from: Option<usize>) -> b
     if graph.n.segs <= k || l.leaves != l.enters {
         return false;
     }
-    is_self_link(graph.text, l) && word(graph.work, g.folded + k) == 1
+    is_self_link(graph.text, l) && is_marked(graph.work, g.folded + k)
 }
 
 // The ends of a link.

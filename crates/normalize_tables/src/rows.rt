@@ -1,6 +1,6 @@
 // Rows of the normalizer's tables by their numbers: the words of a row come back by name, in a struct. What stands above this crate knows
-// neither where a row is nor how wide it is.
-ghost use Rattle.std.specs.Prelude.{◌≡◌, ◌+◌, ◌≤◌, ◌<◌, length, get_or};
+// neither where a row is nor how wide it is, but for the marks of the segments: a word each, 1 where the segment is marked.
+ghost use Rattle.std.specs.Prelude.{◌≡◌, ◌+◌, ◌≤◌, ◌<◌, eqb, length, get_or};
 ghost use Rattle.work.specs.Rows.{number_in, word_of};
 ghost use Rattle.normalize_tables.specs.News.{first_of};
 ghost use Rattle.normalize_tables.specs.NewByNumber.{NewSegmentThere, NewSegmentIs, NewStepThere, NewStepIs, NewPathThere, NewPathIs, ends_no, SegmentRoom, StepRoom, PathRoom, EndsRoom, NewSegmentPut, NewStepPut, NewPathPut, EndsPut};
@@ -48,6 +48,14 @@ pub fn number_at(work: &[u32], at: usize) -> Option<usize>
     ensures { result ≡ number_in (get_or work.now at 0) }
 {
     number_in(work[at]).map(|k| k as usize)
+}
+
+// Is the mark at the word `at` set?
+pub fn is_marked(work: &[u32], at: usize) -> bool
+    requires { at < length work.now }
+    ensures { result ≡ eqb (get_or work.now at 0) 1 }
+{
+    work[at] == 1
 }
 
 // New segment `j`.

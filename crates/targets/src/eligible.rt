@@ -5,8 +5,9 @@ ghost use Rattle.normalize_tables.specs.Layout.{Source};
 ghost use Rattle.targets.specs.Marking.{MarkedIs};
 ghost use Rattle.targets.specs.Markers.{MarksLink, MarksSelfLinks, KeepsUnits};
 
-use crate::marks::{Marker, is_marked};
+use crate::marks::Marker;
 use normalize_tables::layout::Layout;
+use normalize_tables::rows::is_marked;
 use runs::counts::is_self_link;
 use scan::names::is_star;
 use tables::entry::{LinkNo, SegmentNo};

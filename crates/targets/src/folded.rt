@@ -4,8 +4,9 @@ ghost use Rattle.normalize_tables.specs.Layout.{Source};
 ghost use Rattle.targets.specs.Marking.{Markable, OnMarked, AnyIs, BothKept, MarkFoldedIs};
 ghost use Rattle.targets.specs.Markers.{MarksNext, MarksPath, MarksPaths};
 
-use crate::marks::{Marker, is_marked};
+use crate::marks::Marker;
 use normalize_tables::layout::Layout;
+use normalize_tables::rows::is_marked;
 use runs::runs::{Runs, run_from};
 use tables::entry::PathNo;
 use tables::graph::Graph;

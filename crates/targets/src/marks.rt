@@ -1,5 +1,4 @@
 // Marks: a word for each segment, 1 where it is marked.
-ghost use Rattle.std.specs.Prelude.{◌≡◌, ◌<◌, eqb, length, get_or};
 ghost use Rattle.std.proofs.Props.{props};
 ghost use Rattle.scan.specs.Places.{Inside};
 ghost use Rattle.tables.specs.Props.{Fits-prop};
@@ -8,14 +7,6 @@ ghost use Rattle.targets.specs.Marking.{Markable};
 use scan::places::Place;
 use tables::graph::Graph;
 use tables::tables::{Bases, Counts};
-
-// Is the mark at the word `at` set?
-pub fn is_marked(work: &[u32], at: usize) -> bool
-    requires { at < length work.now }
-    ensures { result ≡ eqb (get_or work.now at 0) 1 }
-{
-    work[at] == 1
-}
 
 // What marks segments: the tables of a text in which no two segments have one ID, and a word for each segment, from the word `base` on.
 #[derive(Drop)]

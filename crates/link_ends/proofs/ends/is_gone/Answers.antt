@@ -9,7 +9,7 @@ returns-in_default c = search gone_unknown
 pub returns-then-graph-k : goal.returns-then-graph-k
 returns-then-graph-k c =
     elim c.then-graph-k.branch [
-      | then-graph-k-via-then-graph-k w ↦ gone_new _ _ c.requires.0 c.in-Some.is w.if-graph-k.true
+      | then-graph-k-via-then-graph-k w ↦ gone_new _ _ c.requires.apart c.in-Some.is w.if-graph-k.true
       | then-graph-k-via-else-graph-k+then-ne w ↦ gone_turned _ _ w.ne.ensures w.if-ne.true
     ]
 
