@@ -8,6 +8,8 @@ use Rattle.tables.specs.declared.tables.Counts.{Counts}
 use Rattle.tables.specs.ByNumber.{path_no, segments_of}
 use Rattle.normalize_tables.specs.declared.layout.Layout.{Layout}
 use Rattle.normalize_tables.specs.declared.layout.Made.{Made}
+use Rattle.normalize_tables.specs.declared.normalizer.Normalizer.{Normalizer}
+use Rattle.normalize_tables.specs.Normalizers.{SameTables}
 use Rattle.normalize_tables.specs.Marks.{Marked}
 use Rattle.normalize_tables.specs.Rewritten.{NewRows, Folded}
 use Rattle.fold.specs.Turns.{KnownIn, Room}
@@ -16,7 +18,8 @@ use Rattle.fold.specs.Turns.{KnownIn, Room}
 pub record KnownPath (ss : List Segment) (p : Path) : Type 0 where
   pub step : (k : ℕ) (d : Step) → k < length p.steps → KnownIn ss (nth k p.steps d).name.bytes
 
--- Every step of every path names a segment of the text.
+-- Every step of every path names a segment of the text. No struct holds this: it is known of the work area at one stage only, once no step is bad
+-- and before the paths are transformed, and is passed down one chain of calls.
 pub record AllKnown (text work : List ℕ) (b : Bases) (n : Counts) : Type 0 where
   pub paths : (p : ℕ) → p < n.paths → KnownPath (segments_of text work b n) (path_no text work b p)
 
@@ -35,3 +38,8 @@ pub record TransformIs (text before work : List ℕ) (b : Bases) (n : Counts) (g
   pub rows : NewRows work n g m
   pub long : length work ≡ length before
   pub only : Only (span g.last g.added ∷ []) before work
+
+-- All paths are transformed.
+pub record Transforms (old : Normalizer) (m : Made) (new : Normalizer) : Type 0 where
+  pub same : SameTables old new
+  pub transformed : TransformIs old.text.now old.work.now new.work.now old.b old.n old.g m

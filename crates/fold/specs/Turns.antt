@@ -59,7 +59,7 @@ pub record Stage (text work : List ℕ) (b : Bases) (n : Counts) (g : Layout) (m
   pub making : Making text work b n g (first_of m.first) m.segs
   pub steps : StepRows work n g m
 
--- There is room for what `count` steps become: of no value alone, since each call has another count.
+-- There is room for what `count` steps become. It is asked with each call's own count; the calls within one run pass theirs down.
 pub record Room (n : Counts) (m : Made) (count : ℕ) : Type 0 where
   pub few : m.steps + m.segs + count ≤ n.steps
   pub half : 2 * m.segs + count ≤ n.steps

@@ -9,14 +9,14 @@ use tables::graph::Graph;
 
 // What transforms paths: the tables of a text and the normalizer's behind them, where what was made so far stands.
 #[derive(Drop)]
-pub struct Folding<'a> {
+pub struct Folding<'a, 'b> {
     pub text: &'a [u8],
-    pub work: &'a mut [u32],
+    pub work: &'b mut [u32],
     pub a: Area,
     ghost stage: { Stage text.now work.now a.b a.n a.g a.m } by { Prim.hlevel (props, Fits-prop) },
 }
 
-impl<'a> Folding<'a> {
+impl<'a, 'b> Folding<'a, 'b> {
     ghost use Rattle.fold.specs.Foldings.{PathsGraph, PathsNews};
 
     // The graph whose paths are transformed.

@@ -1,19 +1,18 @@
 // What the paths become, run by run (document 01, "Folding", rule 4).
 ghost use Rattle.std.specs.Prelude.{◌≡◌, ◌-◌, ◌≤◌, ◌<◌};
-ghost use Rattle.normalize_tables.specs.Layout.{Source};
 ghost use Rattle.fold.specs.Turns.{KnownSteps, Room, with_path};
 ghost use Rattle.fold.specs.Foldings.{TurnsSteps, TransformsPath};
-ghost use Rattle.fold.specs.Transforms.{AllKnown, PathReady, TransformIs};
+ghost use Rattle.fold.specs.Transforms.{AllKnown, PathReady, Transforms};
 
 use crate::folding::Folding;
 use crate::turns::turn_run;
 use new_ids::ids::first_number;
-use normalize_tables::layout::{Area, Layout, Made};
+use normalize_tables::layout::{Area, Made};
+use normalize_tables::normalizer::Normalizer;
 use normalize_tables::rows::{NewPathWords, put_new_path};
 use runs::runs::run_from;
 use tables::entry::PathNo;
 use tables::graph::Graph;
-use tables::tables::{Bases, Counts};
 use work::work::clear_words;
 
 // Turns the runs of the steps from `first` up to, not including, `end`.
@@ -70,10 +69,12 @@ pub fn transform_path(paths: &mut Folding, p: PathNo)
 
 // Transforms all paths: new segments, new steps and new paths are put into their tables.
 #[tactic(auto, using(crate::proofs::Transforming::cleared_readable))]
-pub fn transform(text: &[u8], work: &mut [u32], b: Bases, n: Counts, g: Layout) -> Made
-    requires { Source text.now work.old b n g × AllKnown text.now work.old b n }
-    ensures { TransformIs text.now work.old work.new b n g result }
+pub fn transform(tables: &mut Normalizer) -> Made
+    requires { AllKnown tables.old.text.now tables.old.work.now tables.old.b tables.old.n }
+    ensures { Transforms tables.old result tables.new }
 {
+    let Normalizer { text, b, n, g, .. } = *tables;
+    let work = &mut *tables.work;
     clear_words(work, g.last, n.segs);
     let graph = Graph { text, work, b, n };
     let first = first_number(&graph);

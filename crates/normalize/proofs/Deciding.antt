@@ -1,5 +1,5 @@
 -- Whether some segment is folded, and what is answered to the tables and to the text. Assumes nothing.
-use Prim.Native.Nat.{ℕ, ◌+◌}
+use Prim.Native.Nat.{ℕ}
 use native.Mathlib.Omega.{arith}
 use mathlib.Core.Bool.{Bool, true, false, not}
 use mathlib.Core.List.{List, [], ◌∷◌}
@@ -14,32 +14,30 @@ use Rattle.gfa_spec.proofs.Tests.{by_test}
 use Rattle.normalize_spec.specs.Folding.{eligible, is_folded, folded}
 use Rattle.normalize_spec.specs.Counting.{unchanged}
 use Rattle.normalize_spec.specs.Services.{normal, normal_fitted, normalize_entries, normalize}
-use Rattle.std.specs.Prelude.{Result, Ok, Err}
+use Rattle.std.specs.Prelude.{Option, Some, None, Result, Ok, Err}
+use Rattle.std.specs.Bool.{then_some}
 use Rattle.refusals.specs.declared.refusal.Refusal.{Refusal}
 use Rattle.normalize_answers.specs.declared.written.Written.{Written}
 use Rattle.tables.specs.declared.tables.Bases.{Bases}
 use Rattle.tables.specs.declared.tables.Counts.{Counts}
 use Rattle.tables.specs.Entries.{entries_at}
-use Rattle.tables.specs.ByNumber.{tables_end}
 use Rattle.reader.specs.Inputs.{InputIs}
 use Rattle.runs.specs.Counts.{over_rows}
 use Rattle.reader.proofs.Serving.{was_read}
-use Rattle.work.proofs.Rows.{KeptWords}
 use Rattle.normalize_tables.specs.declared.layout.Layout.{Layout}
 use Rattle.normalize_tables.specs.Layout.{Placed, Source}
 use Rattle.normalize_tables.specs.Marks.{Marked}
-use Rattle.normalize_tables.proofs.Sources.{standing, source_stands}
+use Rattle.normalize_tables.proofs.Sources.{standing, kept_behind, source_behind}
 use Rattle.targets.specs.Marking.{MarkedIs, AnyIs}
 use Rattle.normalize_answers.specs.declared.stats.NormalizeSelfLoopsStats.{NormalizeSelfLoopsStats}
 use Rattle.normalize_answers.specs.Counters.{counters, input_counters, InputStats}
 use Rattle.normalize_answers.specs.Answered.{NormalTold}
 use Rattle.normalize_answers.specs.Tied.{Tied}
-use Rattle.normalize.specs.Loaded.{Loaded, Decided}
+use Rattle.normalize.specs.Loaded.{Loaded, Folds, Decided}
 use Rattle.normalize.specs.declared.services.Decision.{Decision}
 use Rattle.normalize_answers.specs.Folding.{FoldTextIs}
 use Rattle.normalize_answers.proofs.Answering.{refuses}
 use Rattle.normalize_answers.proofs.Tying.{tied_stands, tied_itself}
-use Rattle.normalize_answers.proofs.Steering.{marks_behind}
 
 -- ---- rules 1 to 3
 
@@ -71,48 +69,48 @@ stats_are es t v s = s.counts ∙ rw (t.of_links, t.of_paths, ← v, t.of_paths)
 -- ---- the decision
 
 module _ {text w : List ℕ} {b : Bases} {n : Counts} {g : Layout} (l : Loaded text w b n) (p : Placed b n g (length w)) where
-  pub loaded_source : Source text w b n g
+  loaded_source : Source text w b n g
   loaded_source = record { readable = l.readable; placed = p; apart = l.apart; visits = omega (arith, l.visits) }
 
   module _ {cap : ℕ} {w' : List ℕ} (m : MarkedIs cap text w w' b n g) where
-    front : KeptWords b.lines (tables_end b n) w w'
-    front = marks_behind loaded_source g.eligible (g.eligible + n.segs) (omega arith) m.only
-
-    pub marked_source : Source text w' b n g
-    marked_source = source_stands loaded_source front m.long
+    marked_source : Source text w' b n g
+    marked_source = source_behind loaded_source (omega arith) m.only m.long
 
     marked_tied : Tied (entries_at text w b n.lines) text w' b n
-    marked_tied = tied_stands l.tied (standing loaded_source front)
+    marked_tied = tied_stands l.tied (standing loaded_source (kept_behind loaded_source (omega arith) m.only))
 
-    pub decided : {stats : NormalizeSelfLoopsStats} {found : Bool} → InputStats text w b n stats → AnyIs text w' b n g found → Decided text cap w w' b n (record { g = g; stats = stats; any = found })
-    decided i a =
-        let same = marked_tied.entries in
+    says : (found : Bool) → AnyIs text w' b n g found → Folds text cap w' b n (then_some found g)
+    says true a =
         let marked = eligible_marked (entries_at text w b n.lines) cap l.tied m in
         record {
-          long = m.long;
           source = marked_source;
-          tied = tied_itself marked_tied;
           marks = record { test = _; marked = m.marked };
-          same = same;
-          marked = rw same marked;
-          none = rw same (any_is _ cap marked_tied a marked);
-          counted = rw same (stats_are _ l.tied l.visits i);
+          marked = rw marked_tied.entries marked;
+          some = rw marked_tied.entries (any_is _ cap marked_tied a marked);
         }
+    says false a = rw marked_tied.entries (any_is _ cap marked_tied a (eligible_marked (entries_at text w b n.lines) cap l.tied m))
+
+    -- where the work area comes back
+    pub decided : {stats : NormalizeSelfLoopsStats} {found : Bool} {o : Option Layout} {x : List ℕ} → InputStats text w b n stats → AnyIs text w' b n g found → o ≡ then_some found g → x ≡ w'
+        → Decided text cap w x b n (record { stats = stats; folds = o })
+    decided {found = found} i a f e =
+        let same = marked_tied.entries in
+        rw (f, e) (record { long = m.long; tied = tied_itself marked_tied; same = same; counted = rw same (stats_are _ l.tied l.visits i); says = says found a })
 
 -- ---- the answer to the tables
 
 module _ {text : List ℕ} {cap : ℕ} {w w' : List ℕ} {b : Bases} {n : Counts} {d : Decision} {out out' : List ℕ} (r : Result Written Refusal) (h : Decided text cap w w' b n d) where
   -- folded
-  pub tables_folded : d.any ≡ true → FoldTextIs text w' b n d.g d.stats out out' r
+  pub tables_folded : {g : Layout} → d.folds ≡ Some g → FoldTextIs text w' b n g d.stats out out' r
       → NormalTold out out' r (normal_fitted (length out) (normalize_entries text cap (calls.entries (entries_at text w b n.lines))))
   unfolding normalize_entries
-  tables_folded e f = rw (← h.same, h.none, e) (f.folds _ cap h.tied h.marked h.counted)
+  tables_folded e f = let s = rw e at h.says in rw (← h.same, s.some) (f.folds _ cap h.tied s.marked h.counted)
 
   -- returned
-  pub tables_returned : d.any ≡ false → NormalTold out out' r (normal_fitted (length out) (normal text (counters d.stats)))
+  pub tables_returned : d.folds ≡ None → NormalTold out out' r (normal_fitted (length out) (normal text (counters d.stats)))
       → NormalTold out out' r (normal_fitted (length out) (normalize_entries text cap (calls.entries (entries_at text w b n.lines))))
   unfolding normalize_entries
-  tables_returned e f = rw (← h.same, h.none, e, ← h.counted) f
+  tables_returned e f = let s = rw e at h.says in rw (← h.same, s, ← h.counted) f
 
 -- ---- the answer to the text
 

@@ -1,5 +1,5 @@
 -- The tables of an admitted text, and what is known of them before any segment is folded.
-use Rattle.std.specs.Prelude.{ℕ, true, not, List, ◌≡◌, length}
+use Rattle.std.specs.Prelude.{ℕ, true, false, Option, Some, None, List, ◌≡◌, length}
 use Rattle.gfa_spec.specs.Bytes.{is_empty, distinct}
 use Rattle.tables.specs.declared.tables.Bases.{Bases}
 use Rattle.tables.specs.declared.tables.Counts.{Counts}
@@ -10,6 +10,7 @@ use Rattle.tables.specs.ByNumber.{segments_of}
 use Rattle.runs.specs.Counts.{over_rows}
 use Rattle.normalize_spec.specs.Folding.{eligible, folded}
 use Rattle.normalize_spec.specs.Counting.{unchanged}
+use Rattle.normalize_tables.specs.declared.layout.Layout.{Layout}
 use Rattle.normalize_tables.specs.Layout.{Source}
 use Rattle.normalize_tables.specs.Marks.{Marked}
 use Rattle.normalize_answers.specs.Counters.{counters}
@@ -24,13 +25,22 @@ pub record Loaded (text work : List ℕ) (b : Bases) (n : Counts) : Type 0 where
   pub apart : distinct (ids_of (segments_of text work b n)) ≡ true
   pub visits : over_rows length text work b n ≡ n.steps
 
--- Rules 1 and 2 of the entries of an admitted text: its eligible segments are marked, and it is known whether any segment is folded.
+-- Where some segment is folded: where the normalizer's tables are, and the eligible segments are marked there.
+pub record ToFold (text : List ℕ) (cap : ℕ) (work : List ℕ) (b : Bases) (n : Counts) (g : Layout) : Type 0 where
+  pub source : Source text work b n g
+  pub marks : Marks text work b n g.eligible
+  pub marked : Marked (eligible (entries_at text work b n.lines) cap) text work b n g.eligible
+  pub some : is_empty (folded (entries_at text work b n.lines) cap) ≡ false
+
+-- what is known where some segment is folded, and where none is
+abbrev pub Folds : List ℕ → ℕ → List ℕ → Bases → Counts → Option Layout → Type 0
+Folds text cap work b n (Some g) = ToFold text cap work b n g
+Folds text cap work b n None = is_empty (folded (entries_at text work b n.lines) cap) ≡ true
+
+-- Rules 1 and 2 of the entries of an admitted text: it is known whether any segment is folded.
 pub record Decided (text : List ℕ) (cap : ℕ) (work work' : List ℕ) (b : Bases) (n : Counts) (r : Decision) : Type 0 where
   pub long : length work' ≡ length work
-  pub source : Source text work' b n r.g
   pub tied : Tied (entries_at text work' b n.lines) text work' b n
-  pub marks : Marks text work' b n r.g.eligible
   pub same : entries_at text work' b n.lines ≡ entries_at text work b n.lines
-  pub marked : Marked (eligible (entries_at text work' b n.lines) cap) text work' b n r.g.eligible
-  pub none : is_empty (folded (entries_at text work' b n.lines) cap) ≡ not r.any
   pub counted : counters r.stats ≡ unchanged (entries_at text work' b n.lines)
+  pub says : Folds text cap work' b n r.folds

@@ -18,6 +18,7 @@ use normalize_answers::returning::{NormalizeSelfLoopsResult, return_text};
 use normalize_answers::stats::{NormalizeSelfLoopsStats, input_stats};
 use normalize_answers::written::Written;
 use normalize_tables::layout::{Layout, layout_of};
+use normalize_tables::normalizer::Normalizer;
 use reader::input::parse_gfa;
 use refusals::refusal::Refusal;
 use tables::graph::Graph;
@@ -26,12 +27,11 @@ use targets::eligible::mark_eligible;
 use targets::folded::any_folded;
 use work::work::clear;
 
-// What is known once rules 1 and 2 were tried: where the tables of folding are, the counters of the text as it is, and whether any segment is folded.
+// What is known once rules 1 and 2 were tried: the counters of the text as it is, and, where some segment is folded, where the tables of folding are.
 #[derive(Clone, Copy)]
 pub struct Decision {
-    pub g: Layout,
     pub stats: NormalizeSelfLoopsStats,
-    pub any: bool,
+    pub folds: Option<Layout>,
 }
 
 // Marks the eligible segments, and tells whether any segment is folded.
@@ -42,10 +42,16 @@ fn decide(text: &[u8], cap: usize, work: &mut [u32], b: Bases, n: Counts) -> Dec
     let graph = Graph { text, work, b, n };
     let stats = input_stats(&graph);
     let g = layout_of(work, b, n);
-    mark_eligible(text, work, b, n, g, cap);
-    let marked = Graph { text, work, b, n };
-    let any = any_folded(&marked, g);
-    Decision { g, stats, any }
+    let mut tables = Normalizer {
+        text,
+        work,
+        b,
+        n,
+        g,
+    };
+    mark_eligible(&mut tables, cap);
+    let folds = any_folded(&tables).then_some(g);
+    Decision { stats, folds }
 }
 
 // The answer to the tables of a text: the text as it is where no segment is folded, else what folding gives.
@@ -62,10 +68,19 @@ fn answer_tables(
         (normal_fitted (length out.old) (normalize_entries text.now cap (entries (entries_at text.now work.old b n.lines)))) }
 {
     let d = decide(text, cap, work, b, n);
-    if d.any {
-        return fold_text(text, work, b, n, d.g, d.stats, out);
+    match d.folds {
+        Some(g) => {
+            let mut tables = Normalizer {
+                text,
+                work,
+                b,
+                n,
+                g,
+            };
+            fold_text(&mut tables, d.stats, out)
+        }
+        None => return_text(text, out, d.stats),
     }
-    return_text(text, out, d.stats)
 }
 
 // The answer: refusals 1 to 17, then 18 and 19, then 22. The work area holds the tables.

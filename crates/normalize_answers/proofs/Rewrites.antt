@@ -23,33 +23,32 @@ use Rattle.tables.specs.declared.tables.Counts.{Counts}
 use Rattle.tables.specs.ByNumber.{tables_end}
 use Rattle.normalize_tables.specs.declared.layout.Layout.{Layout}
 use Rattle.normalize_tables.specs.declared.layout.Made.{Made}
-use Rattle.normalize_tables.specs.Layout.{Placed, Source}
+use Rattle.normalize_tables.specs.Layout.{Source}
 use Rattle.normalize_tables.specs.Marks.{Marked}
 use Rattle.normalize_tables.specs.News.{first_of, new_at, news_at, names_at, key_at, keys_at}
 use Rattle.normalize_tables.specs.Rewritten.{Folded, Relinked}
 use Rattle.normalize_tables.proofs.Sources.{standing, source_stands, marked_stands}
 use Rattle.normalize_tables.proofs.Nodes.{names_length}
 use Rattle.normalize_tables.proofs.NewsStand.{new_rows_kept, paths_kept, front_kept, source_kept, news_kept, names_kept}
-use Rattle.fold.specs.Transforms.{TransformIs}
+use Rattle.normalize_tables.specs.declared.normalizer.Normalizer.{Normalizer}
+use Rattle.fold.specs.Transforms.{TransformIs, Transforms}
 use Rattle.fold.specs.Pairings.{NewPairTotals}
 use Rattle.relink.specs.declared.settle.Links.{Links}
 use Rattle.relink.specs.Relinking.{SettledIs}
 use Rattle.link_ends.specs.LinkEnds.{Relinkable}
 use Rattle.rewrite.specs.Rewriting.{rewritten_from, WroteText}
-use Rattle.std.specs.Prelude.{Result, Ok, Err}
+use Rattle.std.specs.Prelude.{Ok, Err}
 use Rattle.refusals.specs.declared.refusal.Refusal.{Refusal}
 use Rattle.refusals.specs.Refusals.{stated}
 use Rattle.gfa_spec.specs.Calls.{plainly}
 use Rattle.writers.specs.declared.writer.Writer.{Writer}
 use Rattle.writers.specs.Writers.{Starts}
 use Rattle.reader.proofs.Serving.{begun}
-use Rattle.normalize_answers.specs.declared.written.Written.{Written}
-use Rattle.normalize_answers.specs.declared.rewriting.Passed.{Passed}
 use Rattle.normalize_answers.specs.declared.stats.NormalizeSelfLoopsStats.{NormalizeSelfLoopsStats}
 use Rattle.normalize_answers.specs.Counters.{counters, rewritten_counters}
 use Rattle.normalize_answers.specs.Answered.{NormalTold}
 use Rattle.normalize_answers.specs.Tied.{Tied}
-use Rattle.normalize_answers.specs.Folding.{Marks, RewriteIs, PassedIs, Writable, WriteIs}
+use Rattle.normalize_answers.specs.Folding.{Marks, PassedIs, Writable, WriteIs}
 use Rattle.normalize_answers.proofs.Answering.{no_room, room}
 use Rattle.normalize_answers.proofs.Tying.{tied_stands, news_are, paths_are, runs_are, changed_are, steps_are, names_apart, keys_are}
 
@@ -198,10 +197,6 @@ module _ {text w v u : List ℕ} {b : Bases} {n : Counts} {g : Layout} {m : Made
 
 -- ---- what the passes ask, and what they leave
 
--- rows of a work area that is as long as it was
-pub as_long : {b : Bases} {n : Counts} {g : Layout} {k l : ℕ} → Placed b n g k → l ≡ k → Placed b n g l
-as_long p e = rw e p
-
 pub passed : {text w v u : List ℕ} {b : Bases} {n : Counts} {g : Layout} {m : Made} {l : Links} {d : Pairs} → Source text w b n g → Marks text w b n g.folded → TransformIs text w v b n g m
     → NewPairTotals v n g m d → SettledIs text v u b n g m l → PassedIs text w u b n g (record { m = m; l = l; pairs = d })
 passed s k t a q =
@@ -216,16 +211,13 @@ passed s k t a q =
       };
     }
 
--- ---- rule 7
+-- ---- by what folds a text
 
-pub rewrites : {text w u : List ℕ} {b : Bases} {n : Counts} {g : Layout} {p : Passed} {nodes : ℕ} {stats counted : NormalizeSelfLoopsStats} {out out' : List ℕ} (r : Result Written Refusal)
-    → PassedIs text w u b n g p → counters counted ≡ rewritten_counters (counters stats) nodes p.m p.l p.pairs → WriteIs text u b n g p.m p.l.added counted out out' r
-    → RewriteIs text w b n g nodes stats out out' r
-rewrites {text} {w} {b = b} {n} {g} {p} {nodes} {stats} {counted} {out} {out'} r a c x = record { rewrites = λ es cap e h k y. there es cap e h k y }
-  where
-    there : (es : List Entry) (cap : ℕ) → Tied es text w b n → Marked (is_folded es cap) text w b n g.folded → nodes ≡ length (folded es cap) → counters stats ≡ unchanged es
-        → NormalTold out out' r (normal_fitted (length out) (normal (rewritten es cap) (rewritten_stats es cap)))
-    there es cap e h k y =
-        let made = a.passes es cap e h in
-        let same-stats : counters counted ≡ rewritten_stats es cap = c ∙ rw y (made.same_counters k) in
-        rw (made.same_text, same-stats) at (x.writes (folded es cap) made.links)
+module _ {t v : Normalizer} {m : Made} (a : Transforms t m v) where
+  pub links_ready : Marks t.text.now t.work.now t.b t.n t.g.folded → Relinkable v.text.now v.work.now v.b v.n v.g m
+  links_ready q = rw (a.same.text, a.same.bases, a.same.counts, a.same.layout) (relinkable t.source a.transformed q)
+
+  pub passed_given : {u : List ℕ} {l : Links} {d : Pairs} → Marks t.text.now t.work.now t.b t.n t.g.folded → NewPairTotals v.work.now v.n v.g m d → SettledIs v.text.now v.work.now u v.b v.n v.g m l
+      → PassedIs t.text.now t.work.now u t.b t.n t.g (record { m = m; l = l; pairs = d })
+  passed_given q p s =
+      passed t.source q a.transformed (rw (a.same.counts, a.same.layout) at p) (rw (a.same.text, a.same.bases, a.same.counts, a.same.layout) at s)

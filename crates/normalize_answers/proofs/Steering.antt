@@ -1,9 +1,8 @@
 -- A text of which some segment is folded: what each pass found is what document 01's rules say of the entries. Assumes nothing.
-use Prim.Native.Nat.{ℕ, ◌+◌, ◌≤◌}
+use Prim.Native.Nat.{ℕ}
 use native.Mathlib.Omega.{arith}
 use mathlib.Core.Bool.{Bool}
 use mathlib.Core.List.{List, [], ◌∷◌}
-use mathlib.Core.Logic.{inl}
 use Rattle.std.specs.Prelude.{Some, Result, Ok, Err}
 use mathlib.Core.Path.{◌≡◌, refl, sym, ◌∙◌}
 use lib.ListN.{length}
@@ -16,18 +15,15 @@ use Rattle.normalize_spec.specs.Folding.{eligible, is_folded, folded}
 use Rattle.normalize_spec.specs.Counting.{unchanged}
 use Rattle.normalize_spec.specs.Services.{fold, normal_fitted}
 use Rattle.normalize_spec.proofs.Demand.{fold_accepts}
-use Rattle.work.specs.Rows.{span, Only}
-use Rattle.work.proofs.Rows.{KeptWords, only_kept}
 use Rattle.refusals.specs.declared.refusal.Refusal.{Refusal}
 use Rattle.refusals.specs.Refusals.{stated}
 use Rattle.tables.specs.declared.tables.Bases.{Bases}
 use Rattle.tables.specs.declared.tables.Counts.{Counts}
-use Rattle.tables.specs.ByNumber.{tables_end}
 use Rattle.spelling.specs.Spelled.{BadStepIs}
 use Rattle.normalize_tables.specs.declared.layout.Layout.{Layout}
 use Rattle.normalize_tables.specs.Layout.{Source}
 use Rattle.normalize_tables.specs.Marks.{Marked}
-use Rattle.normalize_tables.proofs.Sources.{standing, source_stands}
+use Rattle.normalize_tables.proofs.Sources.{standing, kept_behind}
 use Rattle.targets.specs.Marking.{MarkFoldedIs}
 use Rattle.fold.specs.Transforms.{AllKnown}
 use Rattle.fold.proofs.Knowns.{all_known}
@@ -45,13 +41,6 @@ keep_length : {A : Type 0} (p : A → Bool) (xs : List A) → length (keep p xs)
 unfolding keep count
 keep_length p [] = refl
 keep_length p (x ∷ xs) = by_test (p x) (λ e. rw (e, keep_length p xs)) (λ e. rw (e, keep_length p xs))
-
--- ---- words that change behind the tables of the text
-
-module _ {text w w' : List ℕ} {b : Bases} {n : Counts} {g : Layout} (s : Source text w b n g) where
-  -- marks are behind them
-  pub marks_behind : (from to : ℕ) → g.eligible ≤ from → Only (span from to ∷ []) w w' → KeptWords b.lines (tables_end b n) w w'
-  marks_behind from to l o = only_kept b.lines (tables_end b n) o (inl (omega (arith, s.placed)), tt)
 
 -- ---- rule 2
 
@@ -87,18 +76,20 @@ module _ {text w : List ℕ} {b : Bases} {n : Counts} {g : Layout} {stats : Norm
           → NormalTold out out' r (normal_fitted (length out) (fold es cap (bad_step es (paths es))))
       there es cap t m s =
           let good = rw e at (h.first es (sym t.of_segments) (sym t.of_paths)) in
-          let kept = marks_behind source g.folded (g.folded + n.segs) (omega (arith, source.placed)) f.only in
+          let kept = kept_behind source (omega (arith, source.placed)) f.only in
           rw (fold_accepts es cap good)
           (x.rewrites es cap (tied_stands t (standing source kept)) (folded_marked es cap t f m) (folded_counted es cap t f m) s)
 
 -- ---- what the rewriting asks
 
--- the tables, known steps, and marks
-pub rewrite_ready : {es : List Entry} {text w w' : List ℕ} {b : Bases} {n : Counts} {g : Layout} {nodes : ℕ} {k : Result (Unit {0}) Refusal} {u : Unit {0}}
-    → Source text w b n g × Tied es text w b n × Marks text w b n g.eligible → BadStepIs text w b n k → k ≡ Ok u → MarkFoldedIs text w w' b n g nodes
-    → Source text w' b n g × AllKnown text w' b n × Marks text w' b n g.folded
-rewrite_ready {es} {text} {w} {w'} {b} {n} {g} (s, t, q) h e f =
-    let front = marks_behind s g.folded (g.folded + n.segs) (omega (arith, s.placed)) f.only in
+-- known steps
+pub steps_known : {es : List Entry} {text w w' : List ℕ} {b : Bases} {n : Counts} {g : Layout} {nodes : ℕ} {k : Result (Unit {0}) Refusal} {u : Unit {0}}
+    → Source text w b n g → Tied es text w b n → BadStepIs text w b n k → k ≡ Ok u → MarkFoldedIs text w w' b n g nodes → AllKnown text w' b n
+steps_known {es} {text} {w} {w'} {b} {n} s t h e f =
     let good = rw e at (h.first es (sym t.of_segments) (sym t.of_paths)) in
-    let now = tied_stands t (standing s front) in
-    (source_stands s front f.long, all_known es text w' b n (sym now.of_segments) (sym now.of_paths) good, record { test = _; marked = f.marked q.test q.marked })
+    let now = tied_stands t (standing s (kept_behind s (omega (arith, s.placed)) f.only)) in
+    all_known es text w' b n (sym now.of_segments) (sym now.of_paths) good
+
+-- and marks
+pub marks_set : {text w w' : List ℕ} {b : Bases} {n : Counts} {g : Layout} {nodes : ℕ} → Marks text w b n g.eligible → MarkFoldedIs text w w' b n g nodes → Marks text w' b n g.folded
+marks_set q f = record { test = _; marked = f.marked q.test q.marked }

@@ -12,7 +12,9 @@ use Rattle.tables.specs.declared.tables.Bases.{Bases}
 use Rattle.tables.specs.declared.tables.Counts.{Counts}
 use Rattle.normalize_tables.specs.declared.layout.Layout.{Layout}
 use Rattle.normalize_tables.specs.declared.layout.Made.{Made}
+use Rattle.normalize_tables.specs.declared.normalizer.Normalizer.{Normalizer}
 use Rattle.normalize_tables.specs.Layout.{Source}
+use Rattle.normalize_tables.specs.Normalizers.{SameTables}
 use Rattle.normalize_tables.specs.Marks.{Marked}
 use Rattle.normalize_tables.specs.News.{KeyRow}
 use Rattle.normalize_tables.specs.Rewritten.{NewRows, Relinked}
@@ -25,7 +27,8 @@ use Rattle.normalize_answers.specs.Counters.{counters, rewritten_counters}
 use Rattle.normalize_answers.specs.Answered.{NormalTold}
 use Rattle.normalize_answers.specs.Tied.{Tied}
 
--- The words from `base` on are marks: 1 for the segments that pass some test, and 0 for the others.
+-- The words from `base` on are marks: 1 for the segments that pass some test, and 0 for the others. No struct holds this: it holds of the work area
+-- at one stage only, of either table of marks once it is set, and is passed down one chain of calls.
 pub record Marks (text work : List ℕ) (b : Bases) (n : Counts) (base : ℕ) : Type 0 where
   pub test : Segment → Bool
   pub marked : Marked test text work b n base
@@ -62,3 +65,20 @@ pub record PassedIs (text work work' : List ℕ) (b : Bases) (n : Counts) (g : L
 -- What is answered once the links are settled: the rewritten text of the tables, with these statistics.
 pub record WriteIs (text work : List ℕ) (b : Bases) (n : Counts) (g : Layout) (m : Made) (extra : ℕ) (stats : NormalizeSelfLoopsStats) (out out' : List ℕ) (r : Result Written Refusal) : Type 0 where
   pub writes : (fs : List Segment) → Relinked text work b n g fs m extra → NormalTold out out' r (normal_fitted (length out) (normal (rewritten_from text work b n g fs m extra) (counters stats)))
+
+-- ---- by what folds a text
+
+-- Rules 4 to 6 are done.
+pub record PassesText (old : Normalizer) (p : Passed) (new : Normalizer) : Type 0 where
+  pub same : SameTables old new
+  pub passed : PassedIs old.text.now old.work.now new.work.now old.b old.n old.g p
+
+-- The rewritten text is answered.
+pub record RewritesText (old : Normalizer) (nodes : ℕ) (stats : NormalizeSelfLoopsStats) (out out' : List ℕ) (r : Result Written Refusal) (new : Normalizer) : Type 0 where
+  pub same : SameTables old new
+  pub rewritten : RewriteIs old.text.now old.work.now old.b old.n old.g nodes stats out out' r
+
+-- A bad step, or the rewritten text, is answered.
+pub record FoldsText (old : Normalizer) (stats : NormalizeSelfLoopsStats) (out out' : List ℕ) (r : Result Written Refusal) (new : Normalizer) : Type 0 where
+  pub same : SameTables old new
+  pub folded : FoldTextIs old.text.now old.work.now old.b old.n old.g stats out out' r

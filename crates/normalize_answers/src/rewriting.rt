@@ -1,23 +1,22 @@
 // Rules 4 to 7: the paths transformed, the links settled, the text written, its counters gathered.
 ghost use Rattle.std.specs.Prelude.{◌≡◌};
-ghost use Rattle.normalize_tables.specs.Layout.{Source};
 ghost use Rattle.fold.specs.Transforms.{AllKnown};
 ghost use Rattle.normalize_answers.specs.Counters.{counters, rewritten_counters};
-ghost use Rattle.normalize_answers.specs.Folding.{Marks, PassedIs, RewriteIs, Writable, WriteIs};
+ghost use Rattle.normalize_answers.specs.Folding.{Marks, PassesText, RewritesText, Writable, WriteIs};
 
 use crate::stats::NormalizeSelfLoopsStats;
 use crate::written::Written;
 use fold::pairs::new_pairs;
 use fold::paths::transform;
-use normalize_tables::layout::{Area, Layout, Made};
+use normalize_tables::layout::{Area, Made};
 use normalize_tables::new_graph::NewGraph;
+use normalize_tables::normalizer::Normalizer;
 use refusals::reason::Reason;
 use refusals::refusal::Refusal;
 use relink::settle::{Links, settle_links};
 use rewrite::rewritten::put_rewritten;
 use rewrite::settled_graph::SettledGraph;
 use runs::counts::Pairs;
-use tables::tables::{Bases, Counts};
 use writers::writer::Writer;
 
 // What rules 4 to 6 made and counted: new segments and steps, links, and pairs of the new paths.
@@ -86,11 +85,14 @@ pub fn write_text(
 }
 
 // Rules 4 to 6 on the text whose folded segments are marked: its paths transformed, the new pairs counted, its links settled.
-pub fn pass_text(text: &[u8], work: &mut [u32], b: Bases, n: Counts, g: Layout) -> Passed
-    requires { Source text.now work.old b n g × AllKnown text.now work.old b n × Marks text.now work.old b n g.folded }
-    ensures { PassedIs text.now work.old work.new b n g result }
+pub fn pass_text(tables: &mut Normalizer) -> Passed
+    requires known { AllKnown tables.old.text.now tables.old.work.now tables.old.b tables.old.n }
+    requires marks { Marks tables.old.text.now tables.old.work.now tables.old.b tables.old.n tables.old.g.folded }
+    ensures { PassesText tables.old result tables.new }
 {
-    let m = transform(text, work, b, n, g);
+    let m = transform(tables);
+    let Normalizer { text, b, n, g, .. } = *tables;
+    let work = &mut *tables.work;
     let a = Area { b, n, g, m };
     let pairs = new_pairs(work, a);
     let l = settle_links(text, work, a);
@@ -99,20 +101,19 @@ pub fn pass_text(text: &[u8], work: &mut [u32], b: Bases, n: Counts, g: Layout) 
 
 // Rewrites the text whose folded segments are marked: there are `nodes` of them.
 pub fn rewrite_text(
-    text: &[u8],
-    work: &mut [u32],
-    b: Bases,
-    n: Counts,
-    g: Layout,
+    tables: &mut Normalizer,
     nodes: usize,
     stats: NormalizeSelfLoopsStats,
     out: &mut [u8],
 ) -> Result<Written, Refusal>
-    requires { Source text.now work.old b n g × AllKnown text.now work.old b n × Marks text.now work.old b n g.folded }
-    ensures { RewriteIs text.now work.old b n g nodes stats out.old out.new result }
+    requires known { AllKnown tables.old.text.now tables.old.work.now tables.old.b tables.old.n }
+    requires marks { Marks tables.old.text.now tables.old.work.now tables.old.b tables.old.n tables.old.g.folded }
+    ensures { RewritesText tables.old nodes stats out.old out.new result tables.new }
 {
-    let p = pass_text(text, work, b, n, g);
+    let p = pass_text(tables);
     let counted = rewritten_stats(stats, nodes, p.m, p.l, p.pairs);
+    let Normalizer { text, b, n, g, .. } = *tables;
+    let work = &mut *tables.work;
     let a = Area { b, n, g, m: p.m };
     write_text(text, work, a, p.l.added, counted, out)
 }

@@ -7,3 +7,4 @@ pub mod Numbered
 pub mod NewByNumber
 pub mod NewsKept
 pub mod NewsStand
+pub mod Normalizers

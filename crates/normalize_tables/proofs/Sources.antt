@@ -1,11 +1,13 @@
 -- What the passes rely on stays where only words behind the rows of the steps change. Assumes nothing.
 use Prim.Native.Nat.{ℕ, ◌+◌, ◌≤◌}
 use native.Mathlib.Omega.{arith}
-use mathlib.Core.List.{List}
+use mathlib.Core.List.{List, [], ◌∷◌}
+use mathlib.Core.Logic.{inl}
 use mathlib.Core.Bool.{Bool}
 use mathlib.Core.Path.{◌≡◌, ◌∙◌}
 use lib.ListN.{length}
-use Rattle.work.proofs.Rows.{KeptWords, kept_within}
+use Rattle.work.specs.Rows.{span, Only}
+use Rattle.work.proofs.Rows.{KeptWords, only_kept, kept_within}
 use Rattle.tables.specs.declared.tables.Bases.{Bases}
 use Rattle.tables.specs.declared.tables.Counts.{Counts}
 use Rattle.gfa_spec.specs.Reading.{Segment}
@@ -31,6 +33,14 @@ module _ {text w w' : List ℕ} {b : Bases} {n : Counts} {g : Layout} (s : Sourc
         readable = record { laid = rw e s.readable.laid; few = s.readable.few; sound = t.sound };
         placed = rw e s.placed;
       }
+
+-- where only words behind the tables of the text change
+module _ {text w w' : List ℕ} {b : Bases} {n : Counts} {g : Layout} (s : Source text w b n g) {from to : ℕ} (l : g.eligible ≤ from) (o : Only (span from to ∷ []) w w') where
+  pub kept_behind : KeptWords b.lines (tables_end b n) w w'
+  kept_behind = only_kept b.lines (tables_end b n) o (inl (omega (arith, s.placed)), tt)
+
+  pub source_behind : length w' ≡ length w → Source text w' b n g
+  source_behind = source_stands s kept_behind
 
 -- marks stay where they and the tables of the text do
 pub marked_stands : {p : Segment → Bool} {text w w' : List ℕ} {b : Bases} {n : Counts} {g : Layout} {hi : ℕ} (base : ℕ) → Source text w b n g → KeptWords 0 hi w w'

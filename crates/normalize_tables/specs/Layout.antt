@@ -22,8 +22,8 @@ pub record Placed (b : Bases) (n : Counts) (g : Layout) (size : ℕ) : Type 0 wh
   pub ends : g.added + n.steps ≤ g.ends
   pub room : g.ends + 3 * n.links ≤ size
 
--- What the normalizer's passes rely on: the tables of a text, in which no two segments have one ID, and room behind them.
--- Asked where a pass begins, which makes of it the struct that it goes by.
+-- What the normalizer's passes rely on: the tables of a text, in which no two segments have one ID, and room behind them. It stands in the types
+-- of what folds a text (`Normalizer`) and of a graph whose paths are transformed (`NewGraph`); no clause asks it alone.
 pub record Source (text work : List ℕ) (b : Bases) (n : Counts) (g : Layout) : Type 0 where
   pub readable : Readable text work b n
   pub placed : Placed b n g (length work)

@@ -5,3 +5,4 @@ pub mod News
 pub mod NewByNumber
 pub mod Rewritten
 pub mod NodeIds
+pub mod Normalizers

@@ -26,6 +26,7 @@ use Rattle.tables.specs.ByNumber.{segment_no, link_no, links_to, link_of, Segmen
 use Rattle.tables.proofs.ByNumber.{links_more, TablesKept, segment_stands, link_stands, links_zero}
 use Rattle.normalize_tables.specs.declared.layout.Layout.{Layout}
 use Rattle.normalize_tables.specs.Layout.{Source}
+use Rattle.normalize_tables.proofs.Sources.{source_behind}
 use Rattle.tables.specs.declared.graph.Graph.{Graph}
 use Rattle.targets.specs.declared.marks.Marker.{Marker}
 use Rattle.targets.specs.Markers.{GraphOf, MarksName, MarksLink}
@@ -161,14 +162,19 @@ module _ {cap : ℕ} {text before : List ℕ} {b : Bases} {n : Counts} {marks : 
 
 -- ---- the eligible segments
 
-pub eligible_marked : {cap : ℕ} {text w v u w' x : List ℕ} {b : Bases} {n : Counts} {g : Layout} → Source text w b n g → Cleared w v g.eligible n.segs
-    → Adds (λ s. self_linked (links_to text v b n.links) s.id) text v u b n g.eligible → UnitsKept cap text u w' b n g.eligible → x ≡ w' → MarkedIs cap text w x b n g
-eligible_marked {text = text} {b = b} {n = n} {g = g} s c a k e =
-    let m = eligible_marks s in
-    let all = span g.eligible (g.eligible + n.segs) ∷ [] in
-    rw e
-    (record {
-      marked = rw (← (tables_same m c.only).of_links) (k.marked _ (a.marked (λ s. false) (cleared_marks m c)));
-      long = k.long ∙ a.long ∙ c.long;
-      only = only_then all (only_then all c.only a.only (λ i o. (o, o))) k.only (λ i o. (o, o));
-    })
+module _ {cap : ℕ} {text w v u w' x : List ℕ} {b : Bases} {n : Counts} {g : Layout} (s : Source text w b n g) (c : Cleared w v g.eligible n.segs)
+    (a : Adds (λ s. self_linked (links_to text v b n.links) s.id) text v u b n g.eligible) (k : UnitsKept cap text u w' b n g.eligible) (e : x ≡ w') where
+  pub eligible_marked : MarkedIs cap text w x b n g
+  eligible_marked =
+      let m = eligible_marks s in
+      let all = span g.eligible (g.eligible + n.segs) ∷ [] in
+      rw e
+      (record {
+        marked = rw (← (tables_same m c.only).of_links) (k.marked _ (a.marked (λ s. false) (cleared_marks m c)));
+        long = k.long ∙ a.long ∙ c.long;
+        only = only_then all (only_then all c.only a.only (λ i o. (o, o))) k.only (λ i o. (o, o));
+      })
+
+  -- and the tables stay
+  pub eligible_source : Source text x b n g
+  eligible_source = let m = eligible_marked in source_behind s (omega arith) m.only m.long

@@ -28,6 +28,7 @@ use Rattle.runs.specs.Runs.{RunFrom}
 use Rattle.tables.proofs.ByNumber.{paths_more, steps_none, segment_stands, path_stands, step_stands, steps_stand, paths_zero, segments_zero, segments_more}
 use Rattle.normalize_tables.specs.declared.layout.Layout.{Layout}
 use Rattle.normalize_tables.specs.Layout.{Source}
+use Rattle.normalize_tables.proofs.Sources.{source_behind}
 use Rattle.normalize_tables.specs.Marks.{Marked}
 use Rattle.tables.specs.declared.graph.Graph.{Graph}
 use Rattle.targets.specs.declared.marks.Marker.{Marker}
@@ -189,6 +190,11 @@ module _ {text w v u w' : List ℕ} {b : Bases} {n : Counts} {g : Layout} {r : �
       }
 
 -- where the work area comes back from a marker
-pub folded_given : {text w v u x w' : List ℕ} {b : Bases} {n : Counts} {g : Layout} {r : ℕ} → Source text w b n g → Cleared w v g.folded n.segs
-    → Adds (λ t. any (repeats_on t.id) (paths_to text v b n.paths)) text v u b n g.folded → BothKept x w' g n.segs r → x ≡ u → MarkFoldedIs text w w' b n g r
-folded_given s c a k e = folded_marked s c a (rw e at k)
+module _ {text w v u x w' : List ℕ} {b : Bases} {n : Counts} {g : Layout} {r : ℕ} (s : Source text w b n g) (c : Cleared w v g.folded n.segs)
+    (a : Adds (λ t. any (repeats_on t.id) (paths_to text v b n.paths)) text v u b n g.folded) (k : BothKept x w' g n.segs r) (e : x ≡ u) where
+  pub folded_given : MarkFoldedIs text w w' b n g r
+  folded_given = folded_marked s c a (rw e at k)
+
+  -- and the tables stay
+  pub folded_source : Source text w' b n g
+  folded_source = let m = folded_given in source_behind s (omega (arith, s.placed)) m.only m.long

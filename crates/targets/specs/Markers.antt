@@ -6,7 +6,9 @@ use Rattle.scan.specs.declared.places.Place.{Place}
 use Rattle.tables.specs.declared.graph.Graph.{Graph}
 use Rattle.tables.specs.ByNumber.{links_to, paths_to}
 use Rattle.targets.specs.declared.marks.Marker.{Marker}
-use Rattle.targets.specs.Marking.{Adds, NameMarked, LinkMarked, UnitsKept, NextMarked, PathMarked}
+use Rattle.normalize_tables.specs.declared.normalizer.Normalizer.{Normalizer}
+use Rattle.normalize_tables.specs.Normalizers.{SameTables}
+use Rattle.targets.specs.Marking.{Adds, NameMarked, LinkMarked, UnitsKept, MarkedIs, NextMarked, PathMarked, MarkFoldedIs}
 
 -- The graph whose segments are marked.
 pub record GraphOf (m : Marker) (g : Graph) : Type 0 where
@@ -57,3 +59,15 @@ pub record MarksPath (old : Marker) (first end : ℕ) (new : Marker) : Type 0 wh
 pub record MarksPaths (old new : Marker) : Type 0 where
   pub same : SameMarks old new
   pub adds : Adds (λ s. any (repeats_on s.id) (paths_to old.text.now old.work.now old.b old.n.paths)) old.text.now old.work.now new.work.now old.b old.n old.base
+
+-- ---- the two rules
+
+-- Rule 1: the eligible segments are marked.
+pub record MarksEligible (cap : ℕ) (old new : Normalizer) : Type 0 where
+  pub same : SameTables old new
+  pub marked : MarkedIs cap old.text.now old.work.now new.work.now old.b old.n old.g
+
+-- Rule 2: the folded segments are marked and counted.
+pub record MarksFolded (old : Normalizer) (r : ℕ) (new : Normalizer) : Type 0 where
+  pub same : SameTables old new
+  pub marked : MarkFoldedIs old.text.now old.work.now new.work.now old.b old.n old.g r

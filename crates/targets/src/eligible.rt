@@ -1,17 +1,14 @@
 // The eligible segments (document 01, "Folding", rule 1).
 ghost use Rattle.std.specs.Prelude.{◌≡◌, ◌<◌};
 ghost use Rattle.normalize_spec.specs.Folding.{is_unit};
-ghost use Rattle.normalize_tables.specs.Layout.{Source};
-ghost use Rattle.targets.specs.Marking.{MarkedIs};
-ghost use Rattle.targets.specs.Markers.{MarksLink, MarksSelfLinks, KeepsUnits};
+ghost use Rattle.targets.specs.Markers.{MarksLink, MarksSelfLinks, KeepsUnits, MarksEligible};
 
 use crate::marks::Marker;
-use normalize_tables::layout::Layout;
+use normalize_tables::normalizer::Normalizer;
 use normalize_tables::rows::is_marked;
 use runs::counts::is_self_link;
 use scan::names::is_star;
 use tables::entry::{LinkNo, SegmentNo};
-use tables::tables::{Bases, Counts};
 use work::work::clear_words;
 
 // Marks the segment of link `i`, where that is a self-link.
@@ -61,10 +58,11 @@ pub fn keep_units(marks: &mut Marker, cap: usize)
 }
 
 // Marks the eligible segments.
-pub fn mark_eligible(text: &[u8], work: &mut [u32], b: Bases, n: Counts, g: Layout, cap: usize)
-    requires { Source text.now work.old b n g }
-    ensures { MarkedIs cap text.now work.old work.new b n g }
+pub fn mark_eligible(tables: &mut Normalizer, cap: usize)
+    ensures { MarksEligible cap tables.old tables.new }
 {
+    let Normalizer { text, b, n, g, .. } = *tables;
+    let work = &mut *tables.work;
     clear_words(work, g.eligible, n.segs);
     let mut marks = Marker {
         text,

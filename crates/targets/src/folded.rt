@@ -1,16 +1,15 @@
 // The folded segments (document 01, "Folding", rule 2): eligible ones with a maximal run of two or more equal steps on a path.
 ghost use Rattle.std.specs.Prelude.{◌+◌, ◌≤◌, ◌<◌, length};
-ghost use Rattle.normalize_tables.specs.Layout.{Source};
-ghost use Rattle.targets.specs.Marking.{Markable, OnMarked, AnyIs, BothKept, MarkFoldedIs};
-ghost use Rattle.targets.specs.Markers.{MarksNext, MarksPath, MarksPaths};
+ghost use Rattle.targets.specs.Marking.{Markable, OnMarked, AnyIs, BothKept};
+ghost use Rattle.targets.specs.Markers.{MarksNext, MarksPath, MarksPaths, MarksFolded};
 
 use crate::marks::Marker;
 use normalize_tables::layout::Layout;
+use normalize_tables::normalizer::Normalizer;
 use normalize_tables::rows::is_marked;
 use runs::runs::{Runs, run_from};
 use tables::entry::PathNo;
 use tables::graph::Graph;
-use tables::tables::{Bases, Counts};
 use work::work::clear_words;
 
 // Is the run of `times` steps from step `i` on one of two or more, on a marked segment?
@@ -29,15 +28,15 @@ pub fn on_marked(graph: &Graph, marks: usize, i: usize, times: usize) -> bool
 }
 
 // Is some segment folded? The search leaves both loops at the first run of two or more on an eligible segment (document 01: a labelled break).
-pub fn any_folded(graph: &Graph, g: Layout) -> bool
-    requires { Source graph.now.text.now graph.now.work.now graph.now.b graph.now.n g }
-    ensures { AnyIs graph.now.text.now graph.now.work.now graph.now.b graph.now.n g result }
+pub fn any_folded(tables: &Normalizer) -> bool
+    ensures { AnyIs tables.now.text.now tables.now.work.now tables.now.b tables.now.n tables.now.g result }
 {
+    let graph = tables.graph();
     let mut found = false;
     'paths: for p in 0..graph.n.paths {
         let path = graph.path(PathNo(p as u32));
-        for run in Runs::of(graph, path.first, path.end) {
-            if on_marked(graph, g.eligible, run.start, run.len()) {
+        for run in Runs::of(&graph, path.first, path.end) {
+            if on_marked(&graph, tables.g.eligible, run.start, run.len()) {
                 found = true;
                 break 'paths;
             }
@@ -99,10 +98,11 @@ pub fn keep_eligible(work: &mut [u32], g: Layout, count: usize) -> usize
 }
 
 // Marks the folded segments; answers how many there are.
-pub fn mark_folded(text: &[u8], work: &mut [u32], b: Bases, n: Counts, g: Layout) -> usize
-    requires { Source text.now work.old b n g }
-    ensures { MarkFoldedIs text.now work.old work.new b n g result }
+pub fn mark_folded(tables: &mut Normalizer) -> usize
+    ensures { MarksFolded tables.old result tables.new }
 {
+    let Normalizer { text, b, n, g, .. } = *tables;
+    let work = &mut *tables.work;
     clear_words(work, g.folded, n.segs);
     let mut marks = Marker {
         text,

@@ -10,16 +10,16 @@ use tables::tables::{Bases, Counts};
 
 // What marks segments: the tables of a text in which no two segments have one ID, and a word for each segment, from the word `base` on.
 #[derive(Drop)]
-pub struct Marker<'a> {
+pub struct Marker<'a, 'b> {
     pub text: &'a [u8],
-    pub work: &'a mut [u32],
+    pub work: &'b mut [u32],
     pub b: Bases,
     pub n: Counts,
     pub base: usize,
     ghost markable: { Markable text.now work.now b n base } by { Prim.hlevel (props, Fits-prop) },
 }
 
-impl<'a> Marker<'a> {
+impl<'a, 'b> Marker<'a, 'b> {
     ghost use Rattle.targets.specs.Markers.{GraphOf, MarksName};
 
     // The graph whose segments are marked.

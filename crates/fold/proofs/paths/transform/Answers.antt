@@ -1,3 +1,4 @@
+use mathlib.Core.Path.{refl}
 use borrow.Author.Rules.{rules}
 use Rattle.fold.proofs.Passing.{passing_ready}
 use Rattle.fold.proofs.Transforming.{passing_start, transform_is}
@@ -17,4 +18,4 @@ pub loop-p-preserved : goal.loop-p-preserved
 loop-p-preserved c = path_given c.loop-p.invariant c.loop-p-test.true c.transform_path.ensures.next (search rules)
 
 pub returns : goal.returns
-returns c = search transform_is
+returns c = record { same = record { text = refl; loan = refl; bases = refl; counts = refl; layout = refl }; transformed = search transform_is }

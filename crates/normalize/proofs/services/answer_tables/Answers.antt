@@ -2,8 +2,8 @@
 use Rattle.normalize.proofs.Deciding.{tables_folded, tables_returned}
 use Rattle.normalize.proofs.services.answer_tables.Goals as goal
 
-pub returns-then-d : goal.returns-then-d
-returns-then-d c = tables_folded _ c.decide-d.ensures c.if-d.true c.fold_text.ensures
+pub returns-in-Some : goal.returns-in-Some
+returns-in-Some c = tables_folded _ c.decide-d.ensures c.in-Some.is c.fold_text.ensures.folded
 
-pub returns : goal.returns
-returns c = tables_returned _ c.decide-d.ensures c.if-d.false c.return_text.ensures
+pub returns-in-None : goal.returns-in-None
+returns-in-None c = tables_returned _ c.decide-d.ensures c.in-None.is c.return_text.ensures

@@ -5,7 +5,7 @@ use Rattle.targets.proofs.Looking.{Looking, Walking}
 use Rattle.targets.proofs.folded.any_folded.Given as goal
 
 abbrev pub invariant-paths : goal.invariant-paths
-invariant-paths l = Looking l.graph.text.now l.graph.work.now l.graph.b l.graph.n l.g.eligible l.p × (l.found ≡ false)
+invariant-paths l = Looking l.tables.text.now l.tables.work.now l.tables.b l.tables.n l.tables.g.eligible l.p × (l.found ≡ false)
 
 abbrev pub invariant-loop-run : goal.invariant-loop-run
-invariant-loop-run l = Walking l.graph.text.now l.graph.work.now l.graph.b l.graph.n l.g.eligible l.p l.run-iterator × (l.found ≡ false)
+invariant-loop-run l = Walking l.tables.text.now l.tables.work.now l.tables.b l.tables.n l.tables.g.eligible l.p l.run-iterator × (l.found ≡ false)
