@@ -21,10 +21,11 @@ pub const OUTPUT: usize = 9;
 
 pub const MORE: usize = 10;
 
-// What stands for a word that is missing or no number: it is larger than any buffer.
+// What stands for a word that is missing or no number: it is larger than any buffer. No Option, since the lists have this number for none.
 pub const NONE: usize = usize::MAX;
 
-// The place `n` behind `at`, or the end where that comes first.
+// The place `n` behind `at`, or the end where that comes first. It adds, and `product` of crate sequences multiplies: one for both would take what
+// to do with the two numbers.
 pub fn forward(at: usize, n: usize, end: usize) -> usize
     requires { at ≤ end }
     ensures place { result ≡ min (at + n) end }

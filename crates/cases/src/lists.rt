@@ -40,7 +40,7 @@ impl<'a> Case<'a> {
         self.list[self.parts.start]
     }
 
-    // Its name, the first word of its header.
+    // Its name, the first word of its header. This reader and the next three look alike: each is of another part, and no other function reads that.
     #[tactic(auto, unfolding(gfa_spec::specs::Bytes::part))]
     pub fn name(&self) -> &'a [u8]
         ensures { result.now ≡ part self.now.parts.start (self.now.parts.blank - self.now.parts.start) self.now.list.now }

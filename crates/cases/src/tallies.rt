@@ -1,17 +1,18 @@
 // Cases counted, and what became of them.
-ghost use Rattle.std.specs.Prelude.{◌≡◌, ◌+◌, ◌≤◌, ◌<◌, length};
+ghost use Rattle.std.specs.Prelude.{◌≡◌, ◌+◌, ◌≤◌, ◌<◌};
 
 // How many cases were replayed, and how many of them differ.
 #[derive(Clone, Copy)]
 pub struct Tally {
     pub cases: u64,
     pub differ: u64,
+    ghost few: { differ ≤ cases },
 }
 
 // One case more; the header of one that differs is printed.
 pub fn counted(t: Tally, header: &[u8], agrees: bool) -> Tally
-    requires { (t.cases < 18446744073709551615) × (t.differ ≤ t.cases) }
-    ensures { (result.cases ≡ t.cases + 1) × (result.differ ≤ result.cases) }
+    requires { t.cases < 18446744073709551615 }
+    ensures { result.cases ≡ t.cases + 1 }
 {
     if agrees {
         return Tally {

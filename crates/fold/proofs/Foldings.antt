@@ -12,6 +12,7 @@ use Rattle.scan.specs.Places.{bytes_in}
 use Rattle.tables.specs.declared.tables.Bases.{Bases}
 use Rattle.tables.specs.declared.tables.Counts.{Counts}
 use Rattle.tables.specs.declared.rows.PathWords.{PathWords}
+use Rattle.tables.specs.declared.path_steps.Steps.{Steps}
 use Rattle.tables.specs.declared.rows.StepWords.{StepWords}
 use Rattle.tables.specs.declared.graph.Graph.{Graph}
 use Rattle.tables.specs.ByNumber.{segments_of, PathIs, StepIs}
@@ -25,7 +26,7 @@ use Rattle.new_segs.specs.Chains.{MadeIs}
 use Rattle.new_segs.specs.Makes.{SegmentMade}
 use Rattle.fold.specs.declared.folding.Folding.{Folding}
 use Rattle.fold.specs.Turns.{EqualStepsPut, KnownIn, KnownStep, KnownSteps, UnitIs, Stage, Room, FoldedIs, TargetIs, FoldIs, with_path, NextIs}
-use Rattle.fold.specs.Foldings.{PathsGraph, PathsNews, SamePaths, FindsTarget, FoldsRun, KeepsRun, TurnsRun, TurnsSteps}
+use Rattle.fold.specs.Foldings.{FoldingGraph, FoldingNews, SamePaths, FindsTarget, FoldsRun, KeepsRun, TurnsRun, TurnsSteps}
 use Rattle.fold.specs.Transforms.{PathReady}
 use Rattle.fold.proofs.Turning.{target_fits, target_made, target_new, fold_is, step_known, turn_folded, turn_kept}
 use Rattle.fold.proofs.Running.{Running, running_known, running_room, running_more}
@@ -42,7 +43,7 @@ same_then s t = record { text = t.text ∙ s.text; loan = t.loan ∙ s.loan; bas
 -- ---- a run that is folded
 
 -- the segment made for it, by the new segments that are lent
-module _ {f : Folding} {s : News} (o : PathsNews f s) {unit count : ℕ} {r : Option ℕ} (h : Room f.a.n f.a.m count × (unit < f.a.n.segs) × (2 ≤ count))
+module _ {f : Folding} {s : News} (o : FoldingNews f s) {unit count : ℕ} {r : Option ℕ} (h : Room f.a.n f.a.m count × (unit < f.a.n.segs) × (2 ≤ count))
     (q : MadeIs s.work.now s.a.g s.a.m.segs unit count r) where
   made_in : MadeIs f.work.now f.a.g f.a.m.segs unit count r
   made_in = rw (o.work, o.area) at q
@@ -74,7 +75,7 @@ module _ {f v : Folding} {w' : List ℕ} {unit count node : ℕ} {mark : Orienta
 
 -- ---- a run, by the graph that is lent
 
-module _ {f : Folding} {g : Graph} (o : PathsGraph f g) where
+module _ {f : Folding} {g : Graph} (o : FoldingGraph f g) where
   step_in : {i : ℕ} {x : StepWords} → StepIs g.text.now g.work.now g.b i x → StepIs f.text.now f.work.now f.a.b i x
   step_in q = rw (o.text, o.work, o.bases) at q
 
@@ -114,7 +115,7 @@ module _ {f now : Folding} {first end i : ℕ} (s : SamePaths f now) (q : Runnin
   pub turn_known : i < end → (i < now.a.n.steps) × KnownStep now.text.now now.work.now now.a.b now.a.n i
   turn_known h = rw (s.text, s.bases, s.counts) (omega (arith, q.inside), running_known q h)
 
-  module _ {g : Graph} {r : ℕ} (o : PathsGraph now g) (x : RunFrom g.text.now g.work.now g.b i end r) where
+  module _ {g : Graph} {r : ℕ} (o : FoldingGraph now g) (x : RunFrom g.text.now g.work.now g.b i end r) where
     run_here : RunFrom f.text.now now.work.now f.a.b i end r
     run_here = rw (s.text, s.bases) at (run_in o x)
 
@@ -126,17 +127,17 @@ module _ {f now : Folding} {first end i : ℕ} (s : SamePaths f now) (q : Runnin
 
 -- ---- a path
 
-module _ {f : Folding} {g : Graph} {p : ℕ} {r : PathWords} (o : PathsGraph f g) (a : PathReady f.text.now f.work.now f.a.b f.a.n f.a.m p) (e : PathIs g.text.now g.work.now g.b g.n p r) where
-  pub steps_room : Room f.a.n f.a.m (r.end - r.first)
+module _ {f : Folding} {g : Graph} {p : ℕ} {r : PathWords} (o : FoldingGraph f g) (a : PathReady f.text.now f.work.now f.a.b f.a.n f.a.m p) (e : PathIs g.text.now g.work.now g.b g.n p r) where
+  pub steps_room : Room f.a.n f.a.m (r.steps.end - r.steps.first)
   steps_room = path_room f.stage a (path_in o e)
 
-  pub steps_known : (r.first ≤ r.end) × (r.end ≤ f.a.n.steps) × KnownSteps f.text.now f.work.now f.a.b f.a.n r.first r.end
-  steps_known = let q = path_in o e in (q.low, q.high, path_known f.stage a q)
+  pub steps_known : (r.steps.end ≤ f.a.n.steps) × KnownSteps f.text.now f.work.now f.a.b f.a.n r.steps.first r.steps.end
+  steps_known = let q = path_in o e in (q.high, path_known f.stage a q)
 
-  module _ {v : Folding} {u : List ℕ} {x : Made} (q : TurnsSteps f r.first r.end v) (put : NewPathPut v.work.now u f.a.g p (record { first = f.a.m.steps; end = v.a.m.steps }))
-      (c : x ≡ with_path f.a.m v.a.m) where
+  module _ {v : Folding} {u : List ℕ} {x : Made} {k : Steps} (q : TurnsSteps f r.steps.first r.steps.end v) (first : k.first ≡ f.a.m.steps) (last : k.end ≡ v.a.m.steps)
+      (put : NewPathPut v.work.now u f.a.g p k) (c : x ≡ with_path f.a.m v.a.m) where
     pub next_given : NextIs f.text.now f.work.now u f.a.b f.a.n f.a.g f.a.m p x
-    next_given = next_is f.stage a (path_in o e) q.turns put c
+    next_given = next_is f.stage a (path_in o e) q.turns first last put c
 
     pub next_stage : Stage v.text.now u v.a.b v.a.n v.a.g x
     next_stage = rw (q.same.text, q.same.bases, q.same.counts, q.same.layout) next_given.grown.stage

@@ -18,7 +18,7 @@ use Rattle.tables.specs.Tables.{Few}
 use Rattle.normalize_tables.specs.declared.layout.Layout.{Layout}
 use Rattle.normalize_tables.specs.declared.layout.Made.{Made}
 use Rattle.normalize_tables.specs.declared.rows.NewStepWords.{NewStepWords}
-use Rattle.normalize_tables.specs.declared.rows.NewPathWords.{NewPathWords}
+use Rattle.tables.specs.declared.path_steps.Steps.{Steps}
 use Rattle.normalize_tables.specs.Rewritten.{NewRows}
 use Rattle.normalize_tables.specs.NewByNumber.{new_step_no, new_steps_from, new_path_no, new_paths_to, new_paths_from, NewStepIs, NewPathIs, step_is}
 use Rattle.normalize_tables.proofs.Nodes.{same_place}
@@ -126,7 +126,7 @@ module _ {work : List ℕ} {n : Counts} {g : Layout} {m : Made} where
   pub summing_start : Summing work n g m 0 0 0
   summing_start = record { high = omega arith; few = (omega arith, omega arith); on_nodes = λ names d e. totalled_start; on_steps = λ names d e. totalled_start }
 
-  pub summing_more : {i nodes steps : ℕ} {r : NewPathWords} {q : Pairs} → Summing work n g m i nodes steps → i < n.paths → NewRows work n g m → Few n → NewPathIs work n g m i r
+  pub summing_more : {i nodes steps : ℕ} {r : Steps} {q : Pairs} → Summing work n g m i nodes steps → i < n.paths → NewRows work n g m → Few n → NewPathIs work n g m i r
       → NewPairsIs work n g m r.first r.end q → Summing work n g m (i + 1) (nodes + q.nodes) (steps + q.steps)
   summing_more s h r f w q =
       record {

@@ -18,6 +18,7 @@ use Rattle.work.proofs.Rows.{each_more}
 use Rattle.tables.specs.declared.tables.Bases.{Bases}
 use Rattle.tables.specs.declared.tables.Counts.{Counts}
 use Rattle.tables.specs.declared.rows.PathWords.{PathWords}
+use Rattle.tables.specs.declared.path_steps.Steps.{Steps}
 use Rattle.tables.specs.ByNumber.{path_no, step_no, steps_from, paths_to, paths_from}
 use Rattle.tables.specs.ByNumber as gfa
 use Rattle.tables.proofs.ByNumber.{paths_next, steps_length, steps_nth}
@@ -63,15 +64,15 @@ bit_most true = omega arith
 bit_most false = omega arith
 
 -- a path's steps, by its words
-path_steps : {text w : List ℕ} {b : Bases} {n : Counts} {p : ℕ} {r : PathWords} → gfa.PathIs text w b n p r → (path_no text w b p).steps ≡ steps_from text w b r.first r.end
+path_steps : {text w : List ℕ} {b : Bases} {n : Counts} {p : ℕ} {r : PathWords} → gfa.PathIs text w b n p r → (path_no text w b p).steps ≡ steps_from text w b r.steps.first r.steps.end
 path_steps e = ap (λ x. x.steps) e.path
 
-path_long : {text w : List ℕ} {b : Bases} {n : Counts} {p : ℕ} {r : PathWords} → gfa.PathIs text w b n p r → length (path_no text w b p).steps ≡ r.end - r.first
-path_long {text} {w} {b} {r = r} e = ap length (path_steps e) ∙ steps_length text w b r.first r.end
+path_long : {text w : List ℕ} {b : Bases} {n : Counts} {p : ℕ} {r : PathWords} → gfa.PathIs text w b n p r → length (path_no text w b p).steps ≡ r.steps.end - r.steps.first
+path_long {text} {w} {b} {r = r} e = ap length (path_steps e) ∙ steps_length text w b r.steps.first r.steps.end
 
 -- the row of a path
 module _ {text w v u : List ℕ} {b : Bases} {n : Counts} {g : Layout} {m t x : Made} {p : ℕ} {r : PathWords} (s : Stage text w b n g m) (a : PathReady text w b n m p) (e : gfa.PathIs text w b n p r)
-    (q : StepsTurned text w v b n g m r.first r.end t) (o : NewPathPut v u g p (record { first = m.steps; end = t.steps })) (c : x ≡ with_path m t) where
+    {k : Steps} (q : StepsTurned text w v b n g m r.steps.first r.steps.end t) (first : k.first ≡ m.steps) (last : k.end ≡ t.steps) (o : NewPathPut v u g p k) (c : x ≡ with_path m t) where
   placed : Placed b n g (length w)
   placed = s.making.source.placed
 
@@ -109,12 +110,12 @@ module _ {text w v u : List ℕ} {b : Bases} {n : Counts} {g : Layout} {m t x : 
               names = rw (same_names q.grown.stage row_below row_segs (row_steps t.steps)) q.grown.names;
               frame = frame_then (frame_less p m.steps q.grown.frame (omega (arith, a.there)) (omega arith)) row_frame;
             };
-        first_step = ap (λ x. x.first) o.words;
-        last_step = ap (λ x. x.end) o.words;
+        first_step = ap (λ x. x.first) o.words ∙ first;
+        last_step = ap (λ x. x.end) o.words ∙ last;
         turned = λ ss fs f. rw (path_steps e) (q.turned ss fs f ∙ stands ss);
         runs = λ ss fs f. rw (path_steps e) (q.runs ss fs f);
         changed = λ ss fs f.
-            let added = any_added (is_folded_run fs) (runs_of (steps_from text w b r.first r.end)) m.runs in
+            let added = any_added (is_folded_run fs) (runs_of (steps_from text w b r.steps.first r.steps.end)) m.runs in
             rw (path_steps e, added, q.runs ss fs f);
         few = omega (arith, bit_most (ltb m.runs t.runs));
       })
@@ -127,17 +128,17 @@ module _ {text w v u : List ℕ} {b : Bases} {n : Counts} {g : Layout} {m t x : 
 
 module _ {text w : List ℕ} {b : Bases} {n : Counts} {g : Layout} {m : Made} {p : ℕ} {r : PathWords} (s : Stage text w b n g m) (a : PathReady text w b n m p) (e : gfa.PathIs text w b n p r) where
   -- what the runs of a path are asked for
-  pub path_room : Room n m (r.end - r.first)
+  pub path_room : Room n m (r.steps.end - r.steps.first)
   path_room = rw (← path_long e) a.room
 
-  pub path_known : KnownSteps text w b n r.first r.end
+  pub path_known : KnownSteps text w b n r.steps.first r.steps.end
   path_known = record { step = known }
     where
-      known : (i : ℕ) → r.first ≤ i → i < r.end → KnownStep text w b n i
+      known : (i : ℕ) → r.steps.first ≤ i → i < r.steps.end → KnownStep text w b n i
       known i l h =
           let d = step_no text w b 0 in
-          let k = a.known.step (i - r.first) d (rw (path_long e) (omega arith)) in
-          rw (← steps_nth text w b r.first r.end i d l h, ← path_steps e) k
+          let k = a.known.step (i - r.steps.first) d (rw (path_long e) (omega arith)) in
+          rw (← steps_nth text w b r.steps.first r.steps.end i d l h, ← path_steps e) k
 
 -- ---- all paths
 

@@ -6,14 +6,14 @@ use Rattle.fold.specs.declared.folding.Folding.{Folding}
 use Rattle.fold.specs.Turns.{with_segs, TargetIs, FoldIs, KeepIs, TurnIs, StepsTurned, NextIs}
 
 -- The graph whose paths are transformed.
-pub record PathsGraph (f : Folding) (g : Graph) : Type 0 where
+pub record FoldingGraph (f : Folding) (g : Graph) : Type 0 where
   pub text : g.text ≡ f.text
   pub work : g.work.now ≡ f.work.now
   pub bases : g.b ≡ f.a.b
   pub counts : g.n ≡ f.a.n
 
 -- The new segments made so far.
-pub record PathsNews (f : Folding) (s : News) : Type 0 where
+pub record FoldingNews (f : Folding) (s : News) : Type 0 where
   pub text : s.text ≡ f.text
   pub work : s.work.now ≡ f.work.now
   pub area : s.a ≡ f.a

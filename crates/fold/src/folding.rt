@@ -17,11 +17,11 @@ pub struct Folding<'a, 'b> {
 }
 
 impl<'a, 'b> Folding<'a, 'b> {
-    ghost use Rattle.fold.specs.Foldings.{PathsGraph, PathsNews};
+    ghost use Rattle.fold.specs.Foldings.{FoldingGraph, FoldingNews};
 
     // The graph whose paths are transformed.
     pub fn graph(&self) -> Graph<'_>
-        ensures { PathsGraph self.now result }
+        ensures { FoldingGraph self.now result }
     {
         Graph {
             text: self.text,
@@ -33,7 +33,7 @@ impl<'a, 'b> Folding<'a, 'b> {
 
     // The new segments made so far.
     pub fn news(&self) -> News<'_>
-        ensures { PathsNews self.now result }
+        ensures { FoldingNews self.now result }
     {
         News {
             text: self.text,

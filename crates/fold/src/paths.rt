@@ -9,22 +9,23 @@ use crate::turns::turn_run;
 use new_ids::ids::first_number;
 use normalize_tables::layout::{Area, Made};
 use normalize_tables::normalizer::Normalizer;
-use normalize_tables::rows::{NewPathWords, put_new_path};
+use normalize_tables::rows::put_new_path;
 use runs::runs::run_from;
 use tables::entry::PathNo;
 use tables::graph::Graph;
+use tables::path_steps::Steps;
 use work::work::clear_words;
 
-// Turns the runs of the steps from `first` up to, not including, `end`.
-pub fn transform_path_steps(paths: &mut Folding, first: usize, end: usize)
-    requires room { Room paths.old.a.n paths.old.a.m (end - first) }
-    requires first_le_end { (first ≤ end) × (end ≤ paths.old.a.n.steps) × KnownSteps paths.old.text.now paths.old.work.now paths.old.a.b paths.old.a.n first end }
-    ensures { TurnsSteps paths.old first end paths.new }
+// Turns the runs of a path's steps.
+pub fn transform_path_steps(paths: &mut Folding, steps: Steps)
+    requires room { Room paths.old.a.n paths.old.a.m (steps.end - steps.first) }
+    requires known { (steps.end ≤ paths.old.a.n.steps) × KnownSteps paths.old.text.now paths.old.work.now paths.old.a.b paths.old.a.n steps.first steps.end }
+    ensures { TurnsSteps paths.old steps.first steps.end paths.new }
 {
-    let mut i = first;
+    let mut i = steps.first;
     // No `for` over `Runs`: each turn writes the work area, which the runs' graph would hold lent across the loop.
-    while i < end {
-        let next = run_from(&paths.graph(), i, end);
+    while i < steps.end {
+        let next = run_from(&paths.graph(), i, steps.end);
         turn_run(paths, i, next - i);
         i = next;
     }
@@ -53,13 +54,13 @@ pub fn transform_path(paths: &mut Folding, p: PathNo)
     let Area { g, m, .. } = paths.a;
     let graph = paths.graph();
     let path = graph.path(p);
-    transform_path_steps(paths, path.first, path.end);
+    transform_path_steps(paths, path.steps);
     let t = paths.a.m;
     put_new_path(
         paths.work,
         g,
         p,
-        NewPathWords {
+        Steps {
             first: m.steps,
             end: t.steps,
         },

@@ -11,7 +11,7 @@ use crate::folding::Folding;
 use new_segs::chains::made_for;
 use new_segs::segs::make_segment;
 use normalize_tables::layout::{Area, Layout};
-use normalize_tables::rows::{NewStepWords, is_marked, put_new_step};
+use normalize_tables::rows::{NewStepWords, UnitRun, is_marked, put_new_step};
 use scan::orientation::Orientation;
 use scan::places::Place;
 use tables::entry::SegmentNo;
@@ -36,50 +36,51 @@ pub fn unit_of(graph: &Graph, name: Place) -> SegmentNo
     graph.named(name).unwrap()
 }
 
-// Is a run of `count` steps on the segment to be folded?
-pub fn is_folded(work: &[u32], g: Layout, unit: SegmentNo, count: usize) -> bool
-    requires { g.folded + unit.0 < length work.now }
-    ensures { FoldedIs work.now g unit.0 count result }
+// Is the run to be folded?
+pub fn is_folded(work: &[u32], g: Layout, run: UnitRun) -> bool
+    requires { g.folded + run.unit.0 < length work.now }
+    ensures { FoldedIs work.now g run.unit.0 run.count result }
 {
-    2 <= count && is_marked(work, g.folded + unit.0 as usize)
+    2 <= run.count && is_marked(work, g.folded + run.unit.0 as usize)
 }
 
-// The node of the new segment of the unit and the run length, which is made where there is none.
+// The node of the new segment of the run's unit and length, which is made where there is none.
 #[tactic(auto, using(crate::proofs::Foldings::finding))]
-pub fn target_for(paths: &mut Folding, unit: SegmentNo, count: usize) -> usize
-    requires { Room paths.old.a.n paths.old.a.m count × (unit.0 < paths.old.a.n.segs) × (2 ≤ count) }
-    ensures { FindsTarget paths.old unit.0 count result paths.new }
+pub fn target_for(paths: &mut Folding, run: UnitRun) -> usize
+    requires { Room paths.old.a.n paths.old.a.m run.count × (run.unit.0 < paths.old.a.n.segs) × (2 ≤ run.count) }
+    ensures { FindsTarget paths.old run.unit.0 run.count result paths.new }
 {
     let a = paths.a;
     let news = paths.news();
-    if let Some(j) = made_for(&news, unit, count) {
+    if let Some(j) = made_for(&news, run) {
         return a.n.segs + j;
     }
-    make_segment(paths.text, paths.work, a, unit, count);
+    make_segment(paths.text, paths.work, a, run);
     paths.a.m.segs = a.m.segs + 1;
     a.n.segs + a.m.segs
 }
 
 // Folds a run into one step on the new segment of its unit and length.
-pub fn fold_run(paths: &mut Folding, unit: SegmentNo, count: usize, mark: Orientation)
-    requires room { Room paths.old.a.n paths.old.a.m count }
-    requires unit_lt_segs { (unit.0 < paths.old.a.n.segs) × (2 ≤ count) }
-    ensures { FoldsRun paths.old unit.0 count (sign_of mark) paths.new }
+pub fn fold_run(paths: &mut Folding, run: UnitRun, mark: Orientation)
+    requires room { Room paths.old.a.n paths.old.a.m run.count }
+    requires unit_lt_segs { (run.unit.0 < paths.old.a.n.segs) × (2 ≤ run.count) }
+    ensures { FoldsRun paths.old run.unit.0 run.count (sign_of mark) paths.new }
 {
     let Area { g, m, .. } = paths.a;
-    let node = target_for(paths, unit, count);
+    let node = target_for(paths, run);
     put_steps(paths.work, g, m.steps, NewStepWords { node, mark }, 1);
     paths.a.m.steps = m.steps + 1;
     paths.a.m.runs = m.runs + 1;
 }
 
 // Keeps the steps of a run.
-pub fn keep_run(paths: &mut Folding, unit: SegmentNo, count: usize, mark: Orientation)
-    requires room { Room paths.old.a.n paths.old.a.m count }
-    requires unit_lt_segs { unit.0 < paths.old.a.n.segs }
-    ensures { KeepsRun paths.old unit.0 count (sign_of mark) paths.new }
+pub fn keep_run(paths: &mut Folding, run: UnitRun, mark: Orientation)
+    requires room { Room paths.old.a.n paths.old.a.m run.count }
+    requires unit_lt_segs { run.unit.0 < paths.old.a.n.segs }
+    ensures { KeepsRun paths.old run.unit.0 run.count (sign_of mark) paths.new }
 {
     let Area { g, m, .. } = paths.a;
+    let UnitRun { unit, count } = run;
     let node = unit.0 as usize;
     put_steps(paths.work, g, m.steps, NewStepWords { node, mark }, count);
     paths.a.m.steps = m.steps + count;
@@ -96,9 +97,10 @@ pub fn turn_run(paths: &mut Folding, i: usize, count: usize)
     let graph = paths.graph();
     let s = graph.step(i);
     let unit = unit_of(&graph, s.name);
-    if is_folded(graph.work, g, unit, count) {
-        fold_run(paths, unit, count, s.mark);
+    let run = UnitRun { unit, count };
+    if is_folded(graph.work, g, run) {
+        fold_run(paths, run, s.mark);
     } else {
-        keep_run(paths, unit, count, s.mark);
+        keep_run(paths, run, s.mark);
     }
 }

@@ -28,9 +28,7 @@ fn case_agrees(c: &Case<'_>, out: &mut [u8]) -> bool
 }
 
 // Runs the cases in their order.
-fn run(list: &[u8], out: &mut [u8]) -> Tally
-    ensures { result.differ ≤ result.cases }
-{
+fn run(list: &[u8], out: &mut [u8]) -> Tally {
     let mut t = Tally {
         cases: 0,
         differ: 0,

@@ -261,10 +261,10 @@ module _ {text work : List ℕ} {b : Bases} {n : Counts} {line : Place} {j : ℕ
     pub steps_room : {base : ℕ} → base ≡ b.steps + 3 * n.steps → base + 3 * field.size + 3 ≤ length work
     steps_room p = omega (arith, steps_short, y.room, path_spare text line.start line.size n y.inside (kind_in kind) (omega (arith, steps_short)) s.letter)
 
-    -- what is said of the steps is said of the line
-    pub path_told : {work' : List ℕ} {base : ℕ} {r : Result ℕ Reason} → base ≡ b.steps + 3 * n.steps →
-        StepsIs text work work' base field.size (steps_of (kind_in kind) (part_at text field.start field.size)) r → PathStepsAre text work work' b n line.start line.size kind r
-    path_told {work'} {r = r} p i = record { says = go r (rw p at i.says) }
+    -- what is said of the steps is said of the line, where the work area comes back
+    pub path_told : {work' back : List ℕ} {base : ℕ} {r : Result ℕ Reason} → base ≡ b.steps + 3 * n.steps →
+        StepsIs text work work' base field.size (steps_of (kind_in kind) (part_at text field.start field.size)) r → back ≡ work' → PathStepsAre text work back b n line.start line.size kind r
+    path_told {work'} {r = r} p i z = rw z (record { says = go r (rw p at i.says) })
       where
         go : (r : Result ℕ Reason) → StepsSay text work work' (b.steps + 3 * n.steps) field.size (steps_of (kind_in kind) (part_at text field.start field.size)) r →
             PathSays text work work' b n line.start line.size kind r

@@ -21,7 +21,7 @@ pub struct NewLine<'a> {
 }
 
 impl<'a> NewLine<'a> {
-    // The segment of the lines before it that has the name.
+    // The segment of the lines before it that has the name. `Graph::named` looks into tables that may be read whole: these may not yet.
     pub fn named(&self, name: Place) -> Option<SegmentNo>
         requires { Inside self.now.text.now name }
         ensures { FoundIs self.now.text.now self.now.work.now self.now.b self.now.n.segs name result }

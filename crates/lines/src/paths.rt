@@ -9,8 +9,10 @@ use crate::new_line::NewLine;
 use refusals::reason::Reason;
 use scan::places::field_at;
 use steps::fields::parse_steps;
+use steps::step_field::StepField;
 use tables::entry::{PathNo, Record};
 use tables::kinds::PathKind;
+use tables::path_steps::Steps;
 use tables::rows::{PathWords, put_path, step_place};
 use tables::tables::{Counts, one_more};
 
@@ -33,7 +35,16 @@ pub fn path_steps(l: &mut NewLine, kind: PathKind) -> Result<usize, Reason>
     let Some(field) = field_at(l.text, l.line, kind.column()) else {
         return Err(short_of(kind));
     };
-    parse_steps(l.text, l.work, step_place(l.b, l.n.steps), field, kind)
+    let NewLine { text, b, n, .. } = *l;
+    let work = &mut *l.work;
+    let base = step_place(b, n.steps);
+    let mut f = StepField {
+        text,
+        work,
+        base,
+        field,
+    };
+    parse_steps(&mut f, kind)
 }
 
 // Adds a P or W line: its record, and how many rows there are with it.
@@ -46,8 +57,10 @@ pub fn add_path(l: &mut NewLine, kind: PathKind) -> Result<(Record, Counts), Rea
     let row = PathWords {
         kind,
         line: l.line,
-        first: l.n.steps,
-        end: l.n.steps + count,
+        steps: Steps {
+            first: l.n.steps,
+            end: l.n.steps + count,
+        },
     };
     put_path(l.work, l.b, p, row);
     Ok((Record::Path(p), one_more(l.n, 0, 0, 1, count)))

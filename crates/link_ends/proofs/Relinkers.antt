@@ -9,7 +9,7 @@ use Rattle.normalize_tables.specs.declared.new_graph.NewGraph.{NewGraph}
 use Rattle.normalize_tables.specs.NewByNumber.{EndsPut}
 use Rattle.link_ends.specs.declared.relinker.Relinker.{Relinker}
 use Rattle.link_ends.specs.LinkEnds.{EndsIs, EndsSettled}
-use Rattle.link_ends.specs.Relinkers.{NewGraphOf, SameLinks}
+use Rattle.link_ends.specs.Relinkers.{RelinkerGraph, SameLinks}
 use Rattle.link_ends.proofs.Endings.{ends_settled}
 
 pub same_none : {l : Relinker} → SameLinks l l
@@ -19,7 +19,7 @@ pub same_then : {a b c : Relinker} → SameLinks a b → SameLinks b c → SameL
 same_then s t = record { text = t.text ∙ s.text; loan = t.loan ∙ s.loan; area = t.area ∙ s.area }
 
 -- a graph whose links are settled reads what the relinker has
-module _ {l : Relinker} {g : NewGraph} (o : NewGraphOf l g) where
+module _ {l : Relinker} {g : NewGraph} (o : RelinkerGraph l g) where
   link_in : {i : ℕ} {r : LinkWords} → LinkIs g.text.now g.work.now g.a.b i r → LinkIs l.text.now l.work.now l.a.b i r
   link_in q = rw (o.text, o.work, o.area) at q
 

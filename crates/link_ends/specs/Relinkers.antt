@@ -5,7 +5,7 @@ use Rattle.link_ends.specs.declared.relinker.Relinker.{Relinker}
 use Rattle.link_ends.specs.LinkEnds.{EndsSettled, AllEnds}
 
 -- The graph whose links are settled.
-pub record NewGraphOf (l : Relinker) (g : NewGraph) : Type 0 where
+pub record RelinkerGraph (l : Relinker) (g : NewGraph) : Type 0 where
   pub text : g.text ≡ l.text
   pub work : g.work.now ≡ l.work.now
   pub area : g.a ≡ l.a

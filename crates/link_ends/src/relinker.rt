@@ -16,11 +16,11 @@ pub struct Relinker<'a> {
 }
 
 impl<'a> Relinker<'a> {
-    ghost use Rattle.link_ends.specs.Relinkers.{NewGraphOf};
+    ghost use Rattle.link_ends.specs.Relinkers.{RelinkerGraph};
 
     // The graph whose links are settled.
     pub fn graph(&self) -> NewGraph<'_>
-        ensures { NewGraphOf self.now result }
+        ensures { RelinkerGraph self.now result }
     {
         NewGraph {
             text: self.text,

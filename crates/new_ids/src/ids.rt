@@ -15,6 +15,7 @@ ghost use Rattle.new_ids.specs.Ids.{NodeIs, SuffixIs};
 use crate::candidates::{is_taken, next_suffix};
 use crate::rows::{is_new_id, put_new_id};
 use normalize_tables::news::News;
+use normalize_tables::rows::UnitRun;
 use scan::numbers::number_of;
 use scan::places::Place;
 use tables::entry::SegmentNo;
@@ -79,11 +80,11 @@ pub fn find_node(news: &News, name: Place) -> Option<usize>
     }
 }
 
-// The first suffix with which the name of a unit and a run length is free.
-pub fn free_suffix(news: &News, unit: SegmentNo, count: usize) -> usize
+// The first suffix with which the name of the run's unit and length is free.
+pub fn free_suffix(news: &News, run: UnitRun) -> usize
     requires suffixed { Suffixed news.now.text.now news.now.work.now news.now.a.b news.now.a.n news.now.a.g (first_of news.now.a.m.first) news.now.a.m.segs }
-    requires unit_lt_segs { (unit.0 < news.now.a.n.segs) × (count ≤ news.now.a.n.steps) × (largest64 ≤ first_of news.now.a.m.first + news.now.a.m.segs) }
-    ensures { SuffixIs news.now.text.now news.now.work.now news.now.a.b news.now.a.n news.now.a.g (first_of news.now.a.m.first) news.now.a.m.segs unit.0 count result }
+    requires unit_lt_segs { (run.unit.0 < news.now.a.n.segs) × (run.count ≤ news.now.a.n.steps) × (largest64 ≤ first_of news.now.a.m.first + news.now.a.m.segs) }
+    ensures { SuffixIs news.now.text.now news.now.work.now news.now.a.b news.now.a.n news.now.a.g (first_of news.now.a.m.first) news.now.a.m.segs run.unit.0 run.count result }
 {
     let graph = Graph {
         text: news.text,
@@ -91,9 +92,9 @@ pub fn free_suffix(news: &News, unit: SegmentNo, count: usize) -> usize
         b: news.a.b,
         n: news.a.n,
     };
-    let id = news.segment_id(unit);
-    for suffix in next_suffix(news, id, count).. {
-        if !is_taken(&graph, id, count, suffix) {
+    let id = news.segment_id(run.unit);
+    for suffix in next_suffix(news, id, run.count).. {
+        if !is_taken(&graph, id, run.count, suffix) {
             return suffix;
         }
     }

@@ -29,7 +29,8 @@ unfoldable pub made_at : List Segment → List ℕ → List ℕ → Bases → La
 made_at ss text work b g first q = record { new = news_at text work b g first q; next = next_at ss q }
 
 -- What holds of a table of q new segments: its rows may be relied on, each name has the first suffix that was free, no two are of one unit
--- and one run length, and those on a unit are a chain.
+-- and one run length, and those on a unit are a chain. Asked where a chain begins and where a new segment's row is made; `News`, by which both read,
+-- holds less, and so do others that read by it.
 pub record Making (text work : List ℕ) (b : Bases) (n : Counts) (g : Layout) (first q : ℕ) : Type 0 where
   pub source : Source text work b n g
   pub first_is : first ≡ first_number (segments_of text work b n)

@@ -8,7 +8,7 @@ ghost use Rattle.normalize_tables.specs.News.{first_of};
 
 use normalize_tables::layout::Layout;
 use normalize_tables::news::News;
-use normalize_tables::rows::{NewSegmentWords, number_at};
+use normalize_tables::rows::{NewSegmentWords, UnitRun, number_at};
 use tables::entry::SegmentNo;
 use work::work::word_of;
 
@@ -53,14 +53,14 @@ impl<'a, 'g> Iterator for Chain<'a, 'g> {
     }
 }
 
-// The last new segment that was made of the unit and the run length, if there is one.
+// The last new segment that was made of the run's unit and length, if there is one.
 #[tactic(auto, using(crate::proofs::Chaining::searching))]
-pub fn made_for(news: &News, unit: SegmentNo, count: usize) -> Option<usize>
-    requires { Making news.now.text.now news.now.work.now news.now.a.b news.now.a.n news.now.a.g (first_of news.now.a.m.first) news.now.a.m.segs × (unit.0 < news.now.a.n.segs) }
-    ensures { MadeIs news.now.work.now news.now.a.g news.now.a.m.segs unit.0 count result }
+pub fn made_for(news: &News, run: UnitRun) -> Option<usize>
+    requires { Making news.now.text.now news.now.work.now news.now.a.b news.now.a.n news.now.a.g (first_of news.now.a.m.first) news.now.a.m.segs × (run.unit.0 < news.now.a.n.segs) }
+    ensures { MadeIs news.now.work.now news.now.a.g news.now.a.m.segs run.unit.0 run.count result }
 {
-    for (j, row) in Chain::on(news, unit) {
-        if row.count == count {
+    for (j, row) in Chain::on(news, run.unit) {
+        if row.count == run.count {
             return Some(j);
         }
     }

@@ -127,7 +127,7 @@ module _ (text work : List ℕ) (b : Bases) (number : Option PathNo) where
 
     named : path_from text work b number ≡ nth (name_column (kind_in p.kind)) (path_fields (kind_in p.kind) its_fields) []
     unfolding path_from its_fields
-    named = rw (some, is.path) (name_of (kind_in p.kind) its_fields (steps_from text work b p.first p.end))
+    named = rw (some, is.path) (name_of (kind_in p.kind) its_fields (steps_from text work b p.steps.first p.steps.end))
 
     pub path_there : {q : Place} {s : List ℕ} → r ≡ Some q → s ≡ bytes_in text q → s ≡ path_from text work b number
     unfolding its_fields part_at

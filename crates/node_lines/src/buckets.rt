@@ -58,7 +58,8 @@ pub fn group_at(work: &[u32], table: usize, nums: usize, m: usize, i: usize) -> 
     }
 }
 
-// The groups that are left, from number `at` on, of the `m` numbers from the word `nums` on.
+// The groups that are left, from number `at` on, of the `m` numbers from the word `nums` on. No slice of the numbers: they lie in one work area with the
+// table whose rows they name, and contracts speak of both.
 #[derive(Drop)]
 pub struct Groups<'a> {
     work: &'a [u32],

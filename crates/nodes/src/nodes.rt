@@ -1,5 +1,6 @@
 // The node table: a row of fourteen words for each node with a self-link, in the order of first self-links. Its words: start and length
-// of the name, the word for the segment's number, the sequence's length, self-links, their orientation pairs, and eight counters.
+// of the name, the word for the segment's number, the sequence's length, self-links, their orientation pairs, and eight counters. A row is read and
+// put by the table's place and its number, as those of crate tables: a struct of both would be made anew for each row that is put.
 ghost use Rattle.std.specs.Prelude.{◌≡◌, ◌+◌, ◌≤◌, ◌<◌, length};
 ghost use Rattle.scan.specs.Places.{Inside};
 ghost use Rattle.nodes.specs.Counters.{no_counter};
@@ -23,7 +24,8 @@ pub struct NodeWords {
     pub bits: usize,
 }
 
-// The word for a segment's number that may be missing.
+// The word for a segment's number that may be missing; `path_word` is that of a path. Inlined, each caller would need a law, since what a closure makes
+// of a number is known only by the cases of that number.
 fn segment_word(number: Option<SegmentNo>) -> usize
     requires { segment_word number < 4294967296 }
     ensures { result ≡ segment_word number }
@@ -87,7 +89,7 @@ pub fn put_node(work: &mut [u32], table: usize, k: usize, w: NodeWords)
     put_counter(work, table, k, none);
 }
 
-// The number of the node, of `count`, that has the name.
+// The number of the node, of `count`, that has the name: as `find_segment`, of another table's rows.
 #[tactic(auto, using(crate::proofs::Finding::finding))]
 pub fn find_row(text: &[u8], work: &[u32], table: usize, count: usize, name: Place) -> Option<usize>
     requires { NamesInside text.now work.now table count × Inside text.now name }

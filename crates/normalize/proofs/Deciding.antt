@@ -33,7 +33,7 @@ use Rattle.normalize_answers.specs.declared.stats.NormalizeSelfLoopsStats.{Norma
 use Rattle.normalize_answers.specs.Counters.{counters, input_counters, InputStats}
 use Rattle.normalize_answers.specs.Answered.{NormalTold}
 use Rattle.normalize_answers.specs.Tied.{Tied}
-use Rattle.normalize.specs.Loaded.{Loaded, Folds, Decided}
+use Rattle.normalize.specs.Loaded.{Loaded, DecidedSays, Decided}
 use Rattle.normalize.specs.declared.services.Decision.{Decision}
 use Rattle.normalize_answers.specs.Folding.{FoldTextIs}
 use Rattle.normalize_answers.proofs.Answering.{refuses}
@@ -79,7 +79,7 @@ module _ {text w : List ℕ} {b : Bases} {n : Counts} {g : Layout} (l : Loaded t
     marked_tied : Tied (entries_at text w b n.lines) text w' b n
     marked_tied = tied_stands l.tied (standing loaded_source (kept_behind loaded_source (omega arith) m.only))
 
-    says : (found : Bool) → AnyIs text w' b n g found → Folds text cap w' b n (then_some found g)
+    says : (found : Bool) → AnyIs text w' b n g found → DecidedSays text cap w' b n (then_some found g)
     says true a =
         let marked = eligible_marked (entries_at text w b n.lines) cap l.tied m in
         record {

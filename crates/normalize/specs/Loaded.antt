@@ -32,10 +32,10 @@ pub record ToFold (text : List ℕ) (cap : ℕ) (work : List ℕ) (b : Bases) (n
   pub marked : Marked (eligible (entries_at text work b n.lines) cap) text work b n g.eligible
   pub some : is_empty (folded (entries_at text work b n.lines) cap) ≡ false
 
--- what is known where some segment is folded, and where none is
-abbrev pub Folds : List ℕ → ℕ → List ℕ → Bases → Counts → Option Layout → Type 0
-Folds text cap work b n (Some g) = ToFold text cap work b n g
-Folds text cap work b n None = is_empty (folded (entries_at text work b n.lines) cap) ≡ true
+-- by the cases of the Option: some segment is folded, or none is
+abbrev pub DecidedSays : List ℕ → ℕ → List ℕ → Bases → Counts → Option Layout → Type 0
+DecidedSays text cap work b n (Some g) = ToFold text cap work b n g
+DecidedSays text cap work b n None = is_empty (folded (entries_at text work b n.lines) cap) ≡ true
 
 -- Rules 1 and 2 of the entries of an admitted text: it is known whether any segment is folded.
 pub record Decided (text : List ℕ) (cap : ℕ) (work work' : List ℕ) (b : Bases) (n : Counts) (r : Decision) : Type 0 where
@@ -43,4 +43,4 @@ pub record Decided (text : List ℕ) (cap : ℕ) (work work' : List ℕ) (b : Ba
   pub tied : Tied (entries_at text work' b n.lines) text work' b n
   pub same : entries_at text work' b n.lines ≡ entries_at text work b n.lines
   pub counted : counters r.stats ≡ unchanged (entries_at text work' b n.lines)
-  pub says : Folds text cap work' b n r.folds
+  pub says : DecidedSays text cap work' b n r.folds

@@ -1,7 +1,7 @@
 // The settings of a normalization (document 01, "Forms that change").
 ghost use Rattle.std.specs.Prelude.{◌≡◌};
 
-// The largest length of a sequence that may be folded; 0 is no cap (rule 1).
+// The largest length of a sequence that may be folded; 0 is no cap (rule 1). A number and no Option, as in the Rust and for C.
 #[derive(Clone, Copy)]
 pub struct NormalizeSelfLoopsConfig {
     pub max_unit_len: usize,

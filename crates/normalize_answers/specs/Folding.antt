@@ -43,7 +43,7 @@ pub record RewriteIs (text work : List ℕ) (b : Bases) (n : Counts) (g : Layout
   pub rewrites : (es : List Entry) (cap : ℕ) → Tied es text work b n → Marked (is_folded es cap) text work b n g.folded → nodes ≡ length (folded es cap) → counters stats ≡ unchanged es
       → NormalTold out out' r (normal_fitted (length out) (normal (rewritten es cap) (rewritten_stats es cap)))
 
--- What is asked before the rewritten text is written.
+-- What is asked where a `SettledGraph` is made of the tables: its ghost fields and those of its graph.
 pub record Writable (text work : List ℕ) (b : Bases) (n : Counts) (g : Layout) (m : Made) (extra : ℕ) : Type 0 where
   pub source : Source text work b n g
   pub rows : NewRows work n g m

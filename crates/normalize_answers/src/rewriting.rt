@@ -2,7 +2,7 @@
 ghost use Rattle.std.specs.Prelude.{◌≡◌};
 ghost use Rattle.fold.specs.Transforms.{AllKnown};
 ghost use Rattle.normalize_answers.specs.Counters.{counters, rewritten_counters};
-ghost use Rattle.normalize_answers.specs.Folding.{Marks, PassesText, RewritesText, Writable, WriteIs};
+ghost use Rattle.normalize_answers.specs.Folding.{Marks, PassesText, RewritesText, WriteIs};
 
 use crate::stats::NormalizeSelfLoopsStats;
 use crate::written::Written;
@@ -17,6 +17,7 @@ use relink::settle::{Links, settle_links};
 use rewrite::rewritten::put_rewritten;
 use rewrite::settled_graph::SettledGraph;
 use runs::counts::Pairs;
+use tables::graph::Graph;
 use writers::writer::Writer;
 
 // What rules 4 to 6 made and counted: new segments and steps, links, and pairs of the new paths.
@@ -57,27 +58,21 @@ pub fn rewritten_stats(
 
 // Measures the rewritten text on an empty buffer, and writes it where it fits.
 pub fn write_text(
-    text: &[u8],
-    work: &[u32],
-    a: Area,
-    extra: usize,
+    settled: &SettledGraph,
     stats: NormalizeSelfLoopsStats,
     out: &mut [u8],
 ) -> Result<Written, Refusal>
-    requires { Writable text.now work.now a.b a.n a.g a.m extra }
-    ensures { WriteIs text.now work.now a.b a.n a.g a.m extra stats out.old out.new result }
+    ensures { let graph = settled.now.graph in WriteIs graph.text.now graph.work.now graph.a.b graph.a.n graph.a.g graph.a.m settled.now.extra stats out.old out.new result }
 {
-    let graph = NewGraph { text, work, a };
-    let settled = SettledGraph { graph, extra };
     let room = out.len();
     let mut nothing = [0u8; 0];
     let mut w = Writer::new(&mut nothing, room + 1);
-    put_rewritten(&mut w, &settled);
+    put_rewritten(&mut w, settled);
     let need = w.at;
     if room < need {
         return Err(Refusal::of(Reason::ShortOutput));
     }
-    put_rewritten(&mut Writer::new(out, room + 1), &settled);
+    put_rewritten(&mut Writer::new(out, room + 1), settled);
     Ok(Written {
         length: need,
         stats,
@@ -112,8 +107,17 @@ pub fn rewrite_text(
 {
     let p = pass_text(tables);
     let counted = rewritten_stats(stats, nodes, p.m, p.l, p.pairs);
-    let Normalizer { text, b, n, g, .. } = *tables;
-    let work = &mut *tables.work;
-    let a = Area { b, n, g, m: p.m };
-    write_text(text, work, a, p.l.added, counted, out)
+    let Graph { text, work, b, n } = tables.graph();
+    let a = Area {
+        b,
+        n,
+        g: tables.g,
+        m: p.m,
+    };
+    let graph = NewGraph { text, work, a };
+    let settled = SettledGraph {
+        graph,
+        extra: p.l.added,
+    };
+    write_text(&settled, counted, out)
 }

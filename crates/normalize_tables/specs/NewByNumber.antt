@@ -7,6 +7,7 @@ use Rattle.scan.specs.Orientations.{sign_of}
 use Rattle.gfa_spec.specs.Runs.{bit}
 use Rattle.std.proofs.lemmas.List.Edits.{sets}
 use Rattle.work.specs.Rows.{EachRow, Range, span, Only, word_of, number_in}
+use Rattle.tables.specs.declared.path_steps.Steps.{Steps}
 use Rattle.tables.specs.declared.tables.Bases.{Bases}
 use Rattle.tables.specs.declared.tables.Counts.{Counts}
 use Rattle.tables.specs.Tables.{Readable}
@@ -14,9 +15,8 @@ use Rattle.normalize_tables.specs.declared.layout.Layout.{Layout}
 use Rattle.normalize_tables.specs.declared.layout.Made.{Made}
 use Rattle.normalize_tables.specs.declared.rows.NewSegmentWords.{NewSegmentWords}
 use Rattle.normalize_tables.specs.declared.rows.NewStepWords.{NewStepWords}
-use Rattle.normalize_tables.specs.declared.rows.NewPathWords.{NewPathWords}
 use Rattle.normalize_tables.specs.declared.rows.Ends.{Ends}
-use Rattle.normalize_tables.specs.News.{StepEntry, segment_words, step_words, path_words, new_of, new_at, NewRow, new_step_at, new_steps_at, NewStepRow, new_path_at, new_paths_at, NewPathRow}
+use Rattle.normalize_tables.specs.News.{StepEntry, PathEntry, segment_words, step_words, path_words, new_of, new_at, NewRow, new_step_at, new_steps_at, NewStepRow, new_path_at, new_paths_at, NewPathRow}
 
 -- ---- numbers
 
@@ -128,11 +128,14 @@ pub record NewStepIs (work : List ℕ) (n : Counts) (g : Layout) (m : Made) (k :
   pub step : (names : List (List ℕ)) → new_step_no names work g k ≡ step_in names r
   pub node : r.node < n.segs + m.segs
 
--- The words are those of new path p; its steps are rows of the table of new steps.
-pub record NewPathIs (work : List ℕ) (n : Counts) (g : Layout) (m : Made) (p : ℕ) (r : NewPathWords) : Type 0 where
-  pub words : r ≡ path_words work g p
+-- the words of a new path
+abbrev pub path_entry : Steps → PathEntry
+path_entry s = record { first = s.first; end = s.end }
+
+-- The steps are those of new path p: rows of the table of new steps.
+pub record NewPathIs (work : List ℕ) (n : Counts) (g : Layout) (m : Made) (p : ℕ) (r : Steps) : Type 0 where
+  pub words : path_entry r ≡ path_words work g p
   pub path : (names : List (List ℕ)) → new_path_no names work g p ≡ new_steps_from names work g r.first r.end
-  pub low : r.first ≤ r.end
   pub high : r.end ≤ m.steps
 
 -- two new steps have the same words: what `==` says of them, by `eq_steps` of proofs/NewByNumber
@@ -167,8 +170,8 @@ pub record NewStepPut (before work : List ℕ) (g : Layout) (k : ℕ) (r : NewSt
   pub only : Only (step_span g k (k + 1) ∷ []) before work
 
 -- So of new path p.
-pub record NewPathPut (before work : List ℕ) (g : Layout) (p : ℕ) (r : NewPathWords) : Type 0 where
-  pub words : path_words work g p ≡ r
+pub record NewPathPut (before work : List ℕ) (g : Layout) (p : ℕ) (r : Steps) : Type 0 where
+  pub words : path_words work g p ≡ path_entry r
   pub long : length work ≡ length before
   pub only : Only (path_span g p (p + 1) ∷ []) before work
 

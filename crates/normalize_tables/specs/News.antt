@@ -13,7 +13,6 @@ use Rattle.tables.specs.declared.tables.Counts.{Counts}
 use Rattle.tables.specs.ByNumber.{segment_no, segments_of}
 use Rattle.normalize_tables.specs.declared.layout.Layout.{Layout}
 use Rattle.normalize_tables.specs.declared.rows.NewSegmentWords.{NewSegmentWords}
-use Rattle.normalize_tables.specs.declared.rows.NewPathWords.{NewPathWords}
 
 -- ---- words
 
@@ -21,6 +20,11 @@ use Rattle.normalize_tables.specs.declared.rows.NewPathWords.{NewPathWords}
 pub record StepEntry : Type 0 where
   pub node : ℕ
   pub mark : ℕ
+
+-- The words of a new path's row: its first new step, and the one behind its last.
+pub record PathEntry : Type 0 where
+  pub first : ℕ
+  pub end : ℕ
 
 -- the words of new segment j, of new step k, of new path p
 abbrev pub segment_words : List ℕ → Layout → ℕ → NewSegmentWords
@@ -35,7 +39,7 @@ segment_words work g j =
 abbrev pub step_words : List ℕ → Layout → ℕ → StepEntry
 step_words work g k = record { node = get_or work (g.steps + 2 * k) 0; mark = get_or work (g.steps + 2 * k + 1) 0 }
 
-abbrev pub path_words : List ℕ → Layout → ℕ → NewPathWords
+abbrev pub path_words : List ℕ → Layout → ℕ → PathEntry
 path_words work g p = record { first = get_or work (g.paths + 2 * p) 0; end = get_or work (g.paths + 2 * p) 0 + get_or work (g.paths + 2 * p + 1) 0 }
 
 -- ---- new segments

@@ -4,7 +4,7 @@ use Rattle.tables.specs.declared.graph.Graph.{Graph}
 use Rattle.normalize_tables.specs.declared.normalizer.Normalizer.{Normalizer}
 
 -- The graph that is folded.
-pub record TextGraph (t : Normalizer) (g : Graph) : Type 0 where
+pub record NormalizerGraph (t : Normalizer) (g : Graph) : Type 0 where
   pub text : g.text ≡ t.text
   pub work : g.work.now ≡ t.work.now
   pub bases : g.b ≡ t.b

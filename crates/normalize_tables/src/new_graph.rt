@@ -8,9 +8,10 @@ ghost use Rattle.normalize_tables.specs.NewByNumber.{NewStepIs, NewPathIs, ends_
 ghost use Rattle.normalize_tables.specs.Rewritten.{NewRows};
 
 use crate::layout::Area;
-use crate::rows::{Ends, NewPathWords, NewStepWords, ends_at, new_path_at, new_step_at};
+use crate::rows::{Ends, NewStepWords, ends_at, new_path_at, new_step_at};
 use tables::entry::{LinkNo, PathNo};
 use tables::graph::Graph;
+use tables::path_steps::Steps;
 use tables::rows::LinkWords;
 
 #[derive(Clone, Copy)]
@@ -23,7 +24,7 @@ pub struct NewGraph<'a> {
 }
 
 impl<'a> NewGraph<'a> {
-    // Link `i` of the text.
+    // Link `i` of the text. The readers of `NewGraph` and of `News` look alike: each is of another table.
     pub fn link(&self, i: LinkNo) -> LinkWords
         requires { i.0 < self.now.a.n.links }
         ensures { LinkIs self.now.text.now self.now.work.now self.now.a.b i.0 result }
@@ -53,8 +54,8 @@ impl<'a> NewGraph<'a> {
         new_step_at(self.work, self.a, k)
     }
 
-    // New path `p`.
-    pub fn new_path(&self, p: PathNo) -> NewPathWords
+    // The new steps of new path `p`.
+    pub fn new_path(&self, p: PathNo) -> Steps
         requires { p.0 < self.now.a.n.paths }
         ensures { NewPathIs self.now.work.now self.now.a.n self.now.a.g self.now.a.m p.0 result }
     {

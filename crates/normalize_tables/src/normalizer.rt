@@ -19,11 +19,12 @@ pub struct Normalizer<'a> {
 }
 
 impl<'a> Normalizer<'a> {
-    ghost use Rattle.normalize_tables.specs.Normalizers.{TextGraph};
+    ghost use Rattle.normalize_tables.specs.Normalizers.{NormalizerGraph};
 
-    // The graph that is folded.
+    // The graph that is folded. `Counting`, `Marker` and others have a reader like this: each lends the work area that it holds. A struct of these
+    // within another was tried, a `Relinker` in `Adder`: what is lent within a struct in a struct is not found to come back.
     pub fn graph(&self) -> Graph<'_>
-        ensures { TextGraph self.now result }
+        ensures { NormalizerGraph self.now result }
     {
         Graph {
             text: self.text,

@@ -1,5 +1,6 @@
 // Rows of the normalizer's tables by their numbers: the words of a row come back by name, in a struct. What stands above this crate knows
-// neither where a row is nor how wide it is, but for the marks of the segments: a word each, 1 where the segment is marked.
+// neither where a row is nor how wide it is, but for three tables of one word a row: the marks of segments, 1 where a segment is marked, the last new
+// segment on each, and the added links.
 ghost use Rattle.std.specs.Prelude.{◌≡◌, ◌+◌, ◌≤◌, ◌<◌, eqb, length, get_or};
 ghost use Rattle.work.specs.Rows.{number_in, word_of};
 ghost use Rattle.normalize_tables.specs.News.{first_of};
@@ -9,7 +10,15 @@ use crate::layout::{Area, Layout};
 use scan::orientation::Orientation;
 use tables::entry::{LinkNo, PathNo, SegmentNo};
 use tables::graph::orientation_at;
+use tables::path_steps::Steps;
 use work::work::{number_in, put_row, word, word_of};
+
+// A run on a segment: the segment, and how many equal steps the run has.
+#[derive(Clone, Copy)]
+pub struct UnitRun {
+    pub unit: SegmentNo,
+    pub count: usize,
+}
 
 // A new segment's row: its unit, the run length, the suffix of its name, and the new segment before it on that unit, if there is one.
 #[derive(Clone, Copy)]
@@ -25,13 +34,6 @@ pub struct NewSegmentWords {
 pub struct NewStepWords {
     pub node: usize,
     pub mark: Orientation,
-}
-
-// A new path's row: its new steps, from the first up to, not including, `end`.
-#[derive(Clone, Copy)]
-pub struct NewPathWords {
-    pub first: usize,
-    pub end: usize,
 }
 
 // The row of a link's ends: the nodes that have their names, and whether it is removed.
@@ -87,16 +89,16 @@ pub fn new_step_at(work: &[u32], a: Area, k: usize) -> NewStepWords
     }
 }
 
-// New path `p`.
+// The new steps of new path `p`.
 #[tactic(auto, unfolding(crate::specs::News::new_path_at))]
-pub fn new_path_at(work: &[u32], a: Area, p: PathNo) -> NewPathWords
+pub fn new_path_at(work: &[u32], a: Area, p: PathNo) -> Steps
     requires { NewPathThere work.now a.n a.g a.m p.0 }
     ensures { NewPathIs work.now a.n a.g a.m p.0 result }
 {
     let at = a.g.paths + 2 * p.0 as usize;
     let first = word(work, at);
     let count = word(work, at + 1);
-    NewPathWords {
+    Steps {
         first,
         end: first + count,
     }
@@ -136,9 +138,9 @@ pub fn put_new_step(work: &mut [u32], g: Layout, k: usize, r: NewStepWords)
     put_row(work, g.steps + 2 * k, &[r.node, r.mark.sign() as usize]);
 }
 
-// Puts the row of new path `p`.
-pub fn put_new_path(work: &mut [u32], g: Layout, p: PathNo, r: NewPathWords)
-    requires { PathRoom work.old g (p.0 + 1) × (r.first ≤ r.end) × (r.end < 4294967296) }
+// Puts the row of new path `p`: its new steps.
+pub fn put_new_path(work: &mut [u32], g: Layout, p: PathNo, r: Steps)
+    requires { PathRoom work.old g (p.0 + 1) × (r.end < 4294967296) }
     ensures { NewPathPut work.old work.new g p.0 r }
 {
     put_row(

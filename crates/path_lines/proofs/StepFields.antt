@@ -18,11 +18,11 @@ use Rattle.writers.proofs.Writing.{as_piece, ◌▷◌}
 use Rattle.writers.proofs.Joining.{join_last, joined_first, led_last}
 use Rattle.tables.specs.declared.kinds.PathKind.{PathKind}
 use Rattle.tables.specs.declared.kinds.PathKind.TheVariants as kind
+use Rattle.tables.specs.declared.path_steps.Steps.{Steps}
 use Rattle.tables.specs.declared.tables.Counts.{Counts}
 use Rattle.tables.specs.Paths.{kind_in}
 use Rattle.normalize_tables.specs.declared.layout.Layout.{Layout}
 use Rattle.normalize_tables.specs.declared.layout.Made.{Made}
-use Rattle.normalize_tables.specs.declared.rows.NewPathWords.{NewPathWords}
 use Rattle.normalize_tables.specs.declared.rows.NewStepWords.{NewStepWords}
 use Rattle.normalize_tables.specs.NewByNumber.{new_step_no, new_steps_from, new_path_no, NewStepIs, NewPathIs, step_in}
 use Rattle.normalize_tables.proofs.NewByNumber.{new_steps_next, new_steps_none, new_steps_split}
@@ -91,7 +91,7 @@ unfolding step_field
 some_field P names w g first n h = rw (some_there (steps_of names w g first n) (λ z. h (sym (steps_length names w g first n) ∙ z))) (sym (commas names w g first n))
 some_field W names w g first n h = rw (some_there (steps_of names w g first n) (λ z. h (sym (steps_length names w g first n) ∙ z))) (sym (marks names w g first n))
 
-module _ (k : Kind) (names : List (List ℕ)) {work : List ℕ} {n : Counts} {g : Layout} {m : Made} {p : ℕ} {before after : Writer} {r : NewPathWords} (q : NewPathIs work n g m p r) where
+module _ (k : Kind) (names : List (List ℕ)) {work : List ℕ} {n : Counts} {g : Layout} {m : Made} {p : ℕ} {before after : Writer} {r : Steps} (q : NewPathIs work n g m p r) where
   pub none_put : r.first ≡ r.end → Puts before (42 ∷ []) after → Puts before (step_field k (new_path_no names work g p)) after
   none_put e v = rw (q.path names, new_steps_none names work g r.first r.end (omega arith), ← none_field k) v
 
@@ -99,8 +99,8 @@ module _ (k : Kind) (names : List (List ℕ)) {work : List ℕ} {n : Counts} {g 
       → Puts before (step_field k (new_path_no names work g p)) after
   steps_put h v =
       let size = r.end - r.first in
-      let some-steps : size ≡ 0 → ⊥ = λ z. h (omega (arith, q.low)) in
-      let end : r.first + size ≡ r.end = omega (arith, q.low) in
+      let some-steps : size ≡ 0 → ⊥ = λ z. h (omega (arith, r.ordered)) in
+      let end : r.first + size ≡ r.end = omega (arith, r.ordered) in
       rw (q.path names, ← (rw end at (some_field k names work g r.first size some-steps))) v
 
 -- ---- a step

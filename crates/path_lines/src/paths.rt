@@ -19,6 +19,7 @@ use scan::places::{Place, field_at};
 use tables::entry::PathNo;
 use tables::graph::Graph;
 use tables::kinds::PathKind;
+use tables::path_steps::Steps;
 use writers::pieces::put_line;
 use writers::writer::Writer;
 
@@ -67,14 +68,14 @@ pub fn put_token(w: &mut Writer, graph: &NewGraph, kind: PathKind, first: usize,
     }
 }
 
-// The new steps from `first` up to `end`, as a line of the kind has them.
-pub fn put_tokens(w: &mut Writer, graph: &NewGraph, kind: PathKind, first: usize, end: usize)
-    requires { (first ≤ end) × (end ≤ graph.now.a.m.steps) }
+// Some new steps, as a line of the kind has them.
+pub fn put_tokens(w: &mut Writer, graph: &NewGraph, kind: PathKind, steps: Steps)
+    requires { steps.end ≤ graph.now.a.m.steps }
     ensures { Puts w.old
-        (pieces_to (token_piece (kind_in kind) (graph_ids graph.now) graph.now.work.now graph.now.a.g first) (end - first)) w.new }
+        (pieces_to (token_piece (kind_in kind) (graph_ids graph.now) graph.now.work.now graph.now.a.g steps.first) (steps.end - steps.first)) w.new }
 {
-    for k in 0..end - first {
-        put_token(w, graph, kind, first, k);
+    for k in 0..steps.end - steps.first {
+        put_token(w, graph, kind, steps.first, k);
     }
 }
 
@@ -84,11 +85,11 @@ pub fn put_steps(w: &mut Writer, graph: &NewGraph, kind: PathKind, p: PathNo)
     ensures { Puts w.old
         (step_field (kind_in kind) (new_path_no (graph_ids graph.now) graph.now.work.now graph.now.a.g p.0)) w.new }
 {
-    let path = graph.new_path(p);
-    if path.first == path.end {
+    let steps = graph.new_path(p);
+    if steps.first == steps.end {
         w.put_byte(b'*');
     } else {
-        put_tokens(w, graph, kind, path.first, path.end);
+        put_tokens(w, graph, kind, steps);
     }
 }
 

@@ -1,20 +1,27 @@
 -- What is added, by the graph that is lent. Assumes nothing.
 use Prim.Native.Nat.{ℕ, ◌+◌, ◌≤◌, ◌<◌}
-use native.Mathlib.Omega.{arith}
 use mathlib.Core.Bool.{Bool, true, false}
-use mathlib.Core.Path.{◌≡◌, refl, ◌∙◌}
+use mathlib.Core.Path.{◌≡◌, refl, ap, ◌∙◌}
 use lib.Dec.{eqb}
 use lib.ListN.{set}
+use Rattle.std.proofs.Props.{props}
 use Rattle.normalize_tables.specs.declared.new_graph.NewGraph.{NewGraph}
-use Rattle.normalize_tables.specs.declared.rows.NewPathWords.{NewPathWords}
+use Rattle.tables.specs.declared.path_steps.Steps.{Steps}
 use Rattle.normalize_tables.specs.NewByNumber.{NewPathIs}
 use Rattle.relink.specs.declared.lookup.Sought.{Sought}
-use Rattle.relink.specs.declared.adder.Tally.{Tally}
+use Rattle.relink.specs.declared.tallies.Tally.{Tally}
 use Rattle.relink.specs.declared.adder.Adder.{Adder}
-use Rattle.relink.specs.Relinking.{PairIs, LinkFound, with_link, PairAdded}
+use Rattle.relink.specs.Relinking.{PairIs, LinkFound, with_link, none_added, PairAdded}
 use Rattle.relink.specs.Sought.{SoughtIs}
-use Rattle.relink.specs.Adders.{AddsIn, SameGraph, AddsPair}
+use Rattle.relink.specs.Adders.{AdderGraph, SameGraph, AddsPair}
 use Rattle.relink.proofs.Adding.{pair_there, pair_added}
+
+-- none is added where none is counted: `few` has one proof
+pub adds_none : (h : 0 ≤ 0) → ◌≡◌ {A = Tally} (record { added = 0; loops = 0; few = h }) none_added
+adds_none h = ap (λ few. record { added = 0; loops = 0; few = few }) (none_prop h (none_added.few))
+  where
+    none_prop : IsProp (0 ≤ 0)
+    none_prop = hlevel props
 
 pub same_none : {a : Adder} → SameGraph a a
 same_none = record { text = refl; loan = refl; area = refl }
@@ -23,8 +30,8 @@ pub same_then : {a b c : Adder} → SameGraph a b → SameGraph b c → SameGrap
 same_then s t = record { text = t.text ∙ s.text; loan = t.loan ∙ s.loan; area = t.area ∙ s.area }
 
 -- the graph that is lent reads what the adder has
-module _ {a : Adder} {g : NewGraph} (o : AddsIn a g) where
-  pub path_in : {p : ℕ} {r : NewPathWords} → NewPathIs g.work.now g.a.n g.a.g g.a.m p r → NewPathIs a.work.now a.a.n a.a.g a.a.m p r
+module _ {a : Adder} {g : NewGraph} (o : AdderGraph a g) where
+  pub path_in : {p : ℕ} {r : Steps} → NewPathIs g.work.now g.a.n g.a.g g.a.m p r → NewPathIs a.work.now a.a.n a.a.g a.a.m p r
   path_in q = rw (o.work, o.area) at q
 
   module _ {step : ℕ} {k : Sought} (q : SoughtIs g step k) where
@@ -41,9 +48,6 @@ module _ {a : Adder} {g : NewGraph} (o : AddsIn a g) where
       passed_there e = record { same = same_none; adds = pair_there a.tally (a.relinkable, a.rows) h pair_in found_in e }
 
       -- none has them
-      module _ {r : Tally} (e : f ≡ false) (put : r ≡ with_link a.tally (eqb k.pair.first.node k.pair.second.node)) where
-        pub passed_added : PairAdded a.text.now a.work.now (set a.work.now (a.a.g.added + a.tally.added) step) a.a.b a.a.n a.a.g a.a.m a.tally step r
-        passed_added = pair_added a.tally (a.relinkable, a.rows) h pair_in found_in e put
-
-        pub loops_few : r.loops ≤ r.added
-        loops_few = omega (arith, a.few, passed_added.grows.loops, passed_added.grows.low)
+      pub passed_added : {r : Tally} → f ≡ false → r ≡ with_link a.tally (eqb k.pair.first.node k.pair.second.node)
+          → PairAdded a.text.now a.work.now (set a.work.now (a.a.g.added + a.tally.added) step) a.a.b a.a.n a.a.g a.a.m a.tally step r
+      passed_added e put = pair_added a.tally (a.relinkable, a.rows) h pair_in found_in e put

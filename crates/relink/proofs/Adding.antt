@@ -26,7 +26,7 @@ use Rattle.tables.specs.ByNumber.{links_to}
 use Rattle.tables.proofs.ByNumber.{link_stands}
 use Rattle.normalize_tables.specs.declared.layout.Layout.{Layout}
 use Rattle.normalize_tables.specs.declared.layout.Made.{Made}
-use Rattle.normalize_tables.specs.declared.rows.NewPathWords.{NewPathWords}
+use Rattle.tables.specs.declared.path_steps.Steps.{Steps}
 use Rattle.normalize_tables.specs.News.{first_of, path_words, names_at, new_paths_at, key_at, keys_at}
 use Rattle.normalize_tables.specs.NewByNumber.{new_step_no, new_steps_from, new_path_no, new_paths_to, NewPathIs}
 use Rattle.normalize_tables.proofs.Nodes.{same_place}
@@ -34,7 +34,7 @@ use Rattle.normalize_tables.proofs.Sources.{standing}
 use Rattle.normalize_tables.proofs.NewByNumber.{ends_stand, new_paths_more, new_steps_next, new_steps_length, new_path_is, new_steps_alike, paths_words, first_kept, end_kept}
 use Rattle.normalize_tables.proofs.NewsStand.{new_step_kept, front_kept}
 use Rattle.relink.specs.declared.lookup.Pair.{Pair}
-use Rattle.relink.specs.declared.adder.Tally.{Tally}
+use Rattle.relink.specs.declared.tallies.Tally.{Tally}
 use Rattle.relink.specs.Relinking.{AddedRows, Ended, pair_no, PairIs, LinkFound, with_link, is_loop, AddsLinks, Grows, PairAdded, PathAdded, none_added, PathsAdded}
 use Rattle.link_ends.specs.LinkEnds.{Relinkable}
 use Rattle.link_ends.proofs.Endings.{relinkable_stands, ends_kept}
@@ -320,7 +320,7 @@ module _ {text before : List ℕ} {b : Bases} {n : Counts} {g : Layout} {m : Mad
       }
 
   module _ {work : List ℕ} {s : Tally} {p : ℕ} (q : Passing text before work b n g m s p) where
-    module _ {r : NewPathWords} (h : p < n.paths) (e : NewPathIs work n g m p r) where
+    module _ {r : Steps} (h : p < n.paths) (e : NewPathIs work n g m p r) where
       -- the path is as it was
       here : (names : List (List ℕ)) → new_path_no names before g p ≡ new_steps_from names work g r.first r.end
       here names = sym (path_same q.relinkable q.grows.only names p h) ∙ e.path names

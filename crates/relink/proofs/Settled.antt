@@ -26,7 +26,7 @@ use Rattle.normalize_tables.specs.NewByNumber.{ends_end, new_paths_to}
 use Rattle.normalize_tables.proofs.Nodes.{names_length}
 use Rattle.normalize_tables.proofs.Sources.{standing}
 use Rattle.normalize_tables.proofs.NewsStand.{names_kept, paths_kept, front_kept}
-use Rattle.relink.specs.declared.adder.Tally.{Tally}
+use Rattle.relink.specs.declared.tallies.Tally.{Tally}
 use Rattle.relink.specs.Relinking.{Ended, kept_keys, is_loop, PathsAdded, SettledIs}
 use Rattle.link_ends.specs.LinkEnds.{Relinkable, AllEnds}
 use Rattle.relink.proofs.Adding.{before_kept, ended_stands}

@@ -5,7 +5,7 @@ use Rattle.relink.specs.declared.adder.Adder.{Adder}
 use Rattle.relink.specs.Relinking.{PairAdded, PathAdded, PathsAdded}
 
 -- The graph to which links are added.
-pub record AddsIn (a : Adder) (g : NewGraph) : Type 0 where
+pub record AdderGraph (a : Adder) (g : NewGraph) : Type 0 where
   pub text : g.text ≡ a.text
   pub work : g.work.now ≡ a.work.now
   pub area : g.a ≡ a.a

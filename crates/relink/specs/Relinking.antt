@@ -1,4 +1,5 @@
 -- The links that are kept, and those that are added. Document 01, "Folding", rule 6.
+use native.Mathlib.Omega.{arith}
 use Rattle.std.specs.Prelude.{ℕ, ◌+◌, ◌-◌, ◌≤◌, ◌<◌, Bool, true, cond, not, ◌&&◌, List, [], ◌∷◌, ◌++◌, map, ◌≡◌, eqb, length}
 use Rattle.std.specs.Prelude.{Some}
 use Rattle.std.specs.Option.{option_eq}
@@ -22,7 +23,7 @@ use Rattle.normalize_tables.specs.Rewritten.{Relinked}
 use Rattle.normalize_tables.specs.declared.rows.Ends.{Ends}
 use Rattle.link_ends.specs.LinkEnds.{Relinkable, EndsRow}
 use Rattle.relink.specs.declared.lookup.Pair.{Pair}
-use Rattle.relink.specs.declared.adder.Tally.{Tally}
+use Rattle.relink.specs.declared.tallies.Tally.{Tally}
 use Rattle.relink.specs.declared.settle.Links.{Links}
 
 -- ---- pairs and links
@@ -104,7 +105,7 @@ added_with text names fs work b n g added ks =
 
 -- the tally with one link more
 abbrev pub with_link : Tally → Bool → Tally
-with_link s same = cond same (record { added = s.added + 1; loops = s.loops + 1 }) (record { added = s.added + 1; loops = s.loops })
+with_link s same = cond same (record { added = s.added + 1; loops = s.loops + 1; few = omega (arith, s.few) }) (record { added = s.added + 1; loops = s.loops; few = omega (arith, s.few) })
 
 -- a link from a node to itself
 abbrev pub is_loop : Key → Bool
@@ -140,7 +141,7 @@ pub record PathAdded (text before work : List ℕ) (b : Bases) (n : Counts) (g :
 
 -- no link is added
 abbrev pub none_added : Tally
-none_added = record { added = 0; loops = 0 }
+none_added = record { added = 0; loops = 0; few = omega arith }
 
 -- The pairs of all new paths are.
 pub record PathsAdded (text before work : List ℕ) (b : Bases) (n : Counts) (g : Layout) (m : Made) (r : Tally) : Type 0 where

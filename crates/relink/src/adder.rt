@@ -1,19 +1,12 @@
 // What adds links.
-ghost use Rattle.std.specs.Prelude.{◌≤◌};
 ghost use Rattle.std.proofs.Props.{props};
 ghost use Rattle.tables.specs.Props.{Fits-prop};
 ghost use Rattle.link_ends.specs.LinkEnds.{Relinkable};
 ghost use Rattle.relink.specs.Relinking.{AddedRows};
 
+use crate::tallies::Tally;
 use normalize_tables::layout::Area;
 use normalize_tables::new_graph::NewGraph;
-
-// How many links are added, and how many of them have equal ends.
-#[derive(Clone, Copy)]
-pub struct Tally {
-    pub added: usize,
-    pub loops: usize,
-}
 
 // What adds links: the tables of a text and the normalizer's behind them, where the new segments, steps and paths are made, and how many links
 // are added so far. It holds no `Relinker`: lent to a struct within a struct, the work area is not found to come back.
@@ -25,15 +18,14 @@ pub struct Adder<'a> {
     pub tally: Tally,
     ghost relinkable: { Relinkable text.now work.now a.b a.n a.g a.m } by { Prim.hlevel (props, Fits-prop) },
     ghost rows: { AddedRows work.now a.n a.g a.m tally.added } by { Prim.hlevel props },
-    ghost few: { tally.loops ≤ tally.added } by { Prim.hlevel props },
 }
 
 impl<'a> Adder<'a> {
-    ghost use Rattle.relink.specs.Adders.{AddsIn};
+    ghost use Rattle.relink.specs.Adders.{AdderGraph};
 
     // The graph to which links are added, as `Relinker::graph`: each lends the work area that it holds.
     pub fn graph(&self) -> NewGraph<'_>
-        ensures { AddsIn self.now result }
+        ensures { AdderGraph self.now result }
     {
         NewGraph {
             text: self.text,

@@ -5,3 +5,4 @@ pub mod adder;
 pub mod lookup;
 pub mod pairs;
 pub mod settle;
+pub mod tallies;

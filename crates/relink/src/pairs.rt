@@ -3,13 +3,15 @@ ghost use Rattle.std.specs.Prelude.{◌≡◌, ◌+◌, ◌-◌, ◌≤◌, ◌<
 ghost use Rattle.relink.specs.Relinking.{with_link, none_added};
 ghost use Rattle.relink.specs.Adders.{AddsPair, AddsPath, AddsPaths};
 
-use crate::adder::{Adder, Tally};
+use crate::adder::Adder;
 use crate::lookup::Sought;
+use crate::tallies::Tally;
 use tables::entry::PathNo;
+use tables::path_steps::Steps;
 
 // With one link more; `same`: it has equal ends.
 pub fn with_link(s: Tally, same: bool) -> Tally
-    requires { (s.added < 4611686018427387904) × (s.loops ≤ s.added) }
+    requires { s.added < 4611686018427387904 }
     ensures { result ≡ with_link s same }
 {
     if same {
@@ -42,12 +44,12 @@ pub fn add_pair(adder: &mut Adder, step: usize)
     adder.tally = with_link(s, p.first.node == p.second.node);
 }
 
-// Adds the links of a new path, whose steps are those from `first` up to `end`.
-pub fn add_path(adder: &mut Adder, first: usize, end: usize)
-    requires { (first ≤ end) × (end ≤ adder.old.a.m.steps) × (adder.old.tally.added + (end - first) ≤ adder.old.a.n.steps) }
-    ensures { AddsPath adder.old first end adder.new }
+// Adds the links of a new path, which has these steps.
+pub fn add_path(adder: &mut Adder, steps: Steps)
+    requires { (steps.end ≤ adder.old.a.m.steps) × (adder.old.tally.added + (steps.end - steps.first) ≤ adder.old.a.n.steps) }
+    ensures { AddsPath adder.old steps.first steps.end adder.new }
 {
-    for k in first + 1..end {
+    for k in steps.first + 1..steps.end {
         add_pair(adder, k - 1);
     }
 }
@@ -58,7 +60,7 @@ pub fn add_paths(adder: &mut Adder)
     ensures { AddsPaths adder.old adder.new }
 {
     for p in 0..adder.a.n.paths {
-        let path = adder.graph().new_path(PathNo(p as u32));
-        add_path(adder, path.first, path.end);
+        let steps = adder.graph().new_path(PathNo(p as u32));
+        add_path(adder, steps);
     }
 }

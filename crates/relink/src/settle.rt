@@ -2,8 +2,9 @@
 ghost use Rattle.relink.specs.Relinking.{SettledIs};
 ghost use Rattle.link_ends.specs.LinkEnds.{Relinkable};
 
-use crate::adder::{Adder, Tally};
+use crate::adder::Adder;
 use crate::pairs::add_paths;
+use crate::tallies::Tally;
 use link_ends::ends::put_all_ends;
 use link_ends::relinker::Relinker;
 use normalize_tables::layout::Area;

@@ -103,12 +103,13 @@ module _ {text w w₁ : List ℕ} {b : Bases} {n : Counts} {m : ℕ} (a : NodesI
   pub nodes_countable : Countable text w₁ (tables_end b n) m
   nodes_countable = now_countable l a
 
-module _ {text w w₁ w₂ : List ℕ} {b : Bases} {n : Counts} {m : ℕ} {areas : Areas} (l : Tabled text w b n) (a : NodesIs text w w₁ b n n.links m) (c : PathsCounted text w₁ w₂ b n m)
-    (e : areas ≡ areas_of b n) where
-  pub orderable : Orderable w₂ areas m
+-- the work area comes back as the passes left it
+module _ {text w w₁ w₂ x : List ℕ} {b : Bases} {n : Counts} {m : ℕ} {areas : Areas} (l : Tabled text w b n) (a : NodesIs text w w₁ b n n.links m) (c : PathsCounted text w₁ w₂ b n m)
+    (e : areas ≡ areas_of b n) (back : x ≡ w₂) where
+  pub orderable : Orderable x areas m
   orderable =
       let f = nodes_few l a in
-      rw e
+      rw (e, back)
       (record {
         table = omega (arith, f);
         lengths = omega (arith, f);
@@ -117,8 +118,8 @@ module _ {text w w₁ w₂ : List ℕ} {b : Bases} {n : Counts} {m : ℕ} {areas
         few = omega (arith, f, l.readable.few.2);
       })
 
-  pub ranked : {w₃ : List ℕ} → OrderedBoth w₂ w₃ areas m → Ranked text w w₃ b n m
-  ranked o = now_ranked l a c (rw e at o.by_length) (rw e at o.by_rank)
+  pub ranked : {w₃ : List ℕ} → OrderedBoth x w₃ areas m → Ranked text w w₃ b n m
+  ranked o = now_ranked l a c (rw (e, back) at o.by_length) (rw e at o.by_rank)
 
 pub ordered_both : {work between work' : List ℕ} {a : Areas} {m : ℕ} → OrderedIs Lengths work between a.table m a.lengths a.spare
     → OrderedIs Ranks between work' a.table m a.ranks a.spare → OrderedBoth work work' a m

@@ -105,11 +105,11 @@ module _ {text work : List ℕ} {b : Bases} where
   totalling_start = record { few = omega arith; runs = rw (paths_zero text work b); longest = rw (paths_zero text work b) }
 
   module _ {n : Counts} {t : Repeats} {p : ℕ} (s : Totalling text work b t p) where
-    pub totalling_more : {r : PathWords} {u : Repeats} → Readable text work b n → PathIs text work b n p r → RepeatsIs text work b r.first r.end t u → Totalling text work b u (p + 1)
+    pub totalling_more : {r : PathWords} {u : Repeats} → Readable text work b n → PathIs text work b n p r → RepeatsIs text work b r.steps.first r.steps.end t u → Totalling text work b u (p + 1)
     totalling_more {r} {u} l is q =
         let ps = paths_to text work b p in
         let pa = path_no text work b p in
-        let here : keep is_repeat (runs_of (steps_from text work b r.first r.end)) ≡ repeats pa = unfold repeats in rw is.path in
+        let here : keep is_repeat (runs_of (steps_from text work b r.steps.first r.steps.end)) ≡ repeats pa = unfold repeats in rw is.path in
         let rs = joined_last repeats ps pa in
         record {
           few = omega (arith, q.few, s.few, is.high, l.few.4);

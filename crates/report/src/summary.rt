@@ -42,7 +42,8 @@ pub fn put_report(w: &mut Writer, graph: &Graph, t: Totals, m: usize, top: usize
     put_nodes(w, graph, a.ranks, top.min(m));
 }
 
-// Measures the report on an empty buffer, and writes it where it fits.
+// Measures the report on an empty buffer, and writes it where it fits. `spell_steps` (speller) and `write_text` (normalize_answers) do the same with
+// what may be refused and with what is answered with statistics: one function for the three would take what writes as a closure, and the piece besides.
 pub fn write_report(
     out: &mut [u8],
     graph: &Graph,

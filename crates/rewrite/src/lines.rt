@@ -1,10 +1,10 @@
-// Lines that are written as they came: headers, comments and blanks, segments, and other lines.
+// Lines that are written as they came: headers, comments and blanks, segments, and other lines. Each section is one `for` over its own table.
 ghost use Rattle.std.specs.Prelude.{◌≡◌, ◌<◌};
 ghost use Rattle.writers.specs.Writers.{Puts, pieces_to};
 ghost use Rattle.rewrite.specs.Pieces.{raw_of, raw_piece, segment_piece};
 
 use scan::places::Place;
-use tables::entry::{RawLine, Record, SegmentNo};
+use tables::entry::{Record, SegmentNo};
 use tables::graph::Graph;
 use writers::pieces::put_line;
 use writers::writer::Writer;
@@ -16,16 +16,6 @@ pub enum Class {
     Other,
 }
 
-// The place of a raw line.
-fn place_of(l: RawLine) -> Place
-    ensures { result ≡ record { start = l.start; size = l.length } }
-{
-    Place {
-        start: l.start as usize,
-        size: l.length as usize,
-    }
-}
-
 // The raw line of the class that a record holds, if it holds one.
 #[tactic(auto, unfolding(crate::specs::Pieces::raw_of))]
 pub fn raw_of(class: Class, r: Record) -> Option<Place>
@@ -33,11 +23,11 @@ pub fn raw_of(class: Class, r: Record) -> Option<Place>
 {
     match class {
         Class::Leading => match r {
-            Record::Header(l) | Record::Comment(l) | Record::Blank(l) => Some(place_of(l)),
+            Record::Header(l) | Record::Comment(l) | Record::Blank(l) => Some(Place::from(l)),
             Record::Segment(_) | Record::Link(_) | Record::Path(_) | Record::Other(_) => None,
         },
         Class::Other => match r {
-            Record::Other(l) => Some(place_of(l)),
+            Record::Other(l) => Some(Place::from(l)),
             _ => None,
         },
     }

@@ -104,7 +104,7 @@ module _ {f : List Step → ℕ} {text work : List ℕ} {b : Bases} {n : Counts}
   unfolding sum
   summed_next {i} s h e = record { left = s.left ∙ rw (paths_next text work b n i h, e) (omega arith) }
 
-  pub summed_more : {i x y : ℕ} {r : PathWords} → Summed f text work b n i x → i < n.paths → PathIs text work b n i r → y ≡ f (steps_from text work b r.first r.end)
+  pub summed_more : {i x y : ℕ} {r : PathWords} → Summed f text work b n i x → i < n.paths → PathIs text work b n i r → y ≡ f (steps_from text work b r.steps.first r.steps.end)
       → Summed f text work b n (i + 1) (x + y)
   summed_more s h q e = summed_next s h (e ∙ rw q.path)
 

@@ -10,6 +10,7 @@ use crate::runs::{same_node, same_step};
 use scan::names::same_name;
 use tables::entry::{LinkNo, PathNo};
 use tables::graph::Graph;
+use tables::path_steps::Steps;
 use tables::rows::LinkWords;
 
 // Adjacent pairs of steps: those on one node, and those of equal steps.
@@ -19,16 +20,15 @@ pub struct Pairs {
     pub steps: usize,
 }
 
-// The adjacent pairs of the steps from step `first` up to, not including, `end`.
+// The adjacent pairs of some steps. `count_new_pairs` (fold) is of new steps: there nodes are compared by their numbers, here by their names in a text.
 #[tactic(auto, using(crate::proofs::Totals::pairing))]
-pub fn count_pairs(graph: &Graph, first: usize, end: usize) -> Pairs
-    requires low { first ≤ end }
-    requires high { end ≤ graph.now.n.steps }
-    ensures { PairsIs graph.now.text.now graph.now.work.now graph.now.b first end result }
+pub fn count_pairs(graph: &Graph, among: Steps) -> Pairs
+    requires { among.end ≤ graph.now.n.steps }
+    ensures { PairsIs graph.now.text.now graph.now.work.now graph.now.b among.first among.end result }
 {
     let mut nodes = 0;
     let mut steps = 0;
-    for j in first + 1..end {
+    for j in among.first + 1..among.end {
         let last = graph.step(j - 1);
         let here = graph.step(j);
         nodes += usize::from(same_node(graph.text, last, here));
@@ -45,7 +45,7 @@ pub fn all_pairs(graph: &Graph) -> Pairs
     let mut steps = 0;
     for i in 0..graph.n.paths {
         let path = graph.path(PathNo(i as u32));
-        let more = count_pairs(graph, path.first, path.end);
+        let more = count_pairs(graph, path.steps);
         nodes += more.nodes;
         steps += more.steps;
     }

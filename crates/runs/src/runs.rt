@@ -8,6 +8,7 @@ ghost use Rattle.runs.specs.Runs.{RunFrom};
 use scan::names::same_name;
 use std::ops::Range;
 use tables::graph::Graph;
+use tables::path_steps::Steps;
 use tables::rows::StepWords;
 
 // Are the steps on one node?
@@ -58,15 +59,15 @@ pub struct Runs<'a, 'g> {
 impl<'a, 'g> Runs<'a, 'g> {
     ghost use Rattle.runs.specs.RunsLeft.{RunsOf};
 
-    // Those of the steps from `first` up to `end`.
-    pub fn of(graph: &'a Graph<'g>, first: usize, end: usize) -> Runs<'a, 'g>
-        requires { end ≤ graph.now.n.steps }
-        ensures { RunsOf graph.now.text.now graph.now.work.now graph.now.b first end result }
+    // Those of some steps.
+    pub fn of(graph: &'a Graph<'g>, steps: Steps) -> Runs<'a, 'g>
+        requires { steps.end ≤ graph.now.n.steps }
+        ensures { RunsOf graph.now.text.now graph.now.work.now graph.now.b steps.first steps.end result }
     {
         Runs {
             graph,
-            at: first,
-            end,
+            at: steps.first,
+            end: steps.end,
         }
     }
 }

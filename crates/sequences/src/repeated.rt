@@ -6,14 +6,14 @@ ghost use Rattle.writers.specs.Writers.{Puts};
 
 use writers::writer::Writer;
 
-// `n` taken `times` times, or the limit where that comes first.
+// `n` taken `times` times, or the limit where that comes first. It multiplies, and `forward` of crate cases adds.
 fn product(n: usize, times: usize, limit: usize) -> usize
     ensures { result ≡ min (n * times) limit }
 {
     n.saturating_mul(times).min(limit)
 }
 
-// The `n` bytes of `out` from `from` on, once more from `to` on.
+// The `n` bytes of `out` from `from` on, once more from `to` on: two places of one buffer, so no slices.
 fn copy_on(out: &mut [u8], from: usize, to: usize, n: usize)
     requires { (from + n ≤ to) × (to + n ≤ length out.old) }
     ensures { out.new ≡ sets out.old to (part from n out.old) }

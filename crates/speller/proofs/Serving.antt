@@ -74,7 +74,7 @@ module _ {text before work : List ℕ} {r : Result (Bases × Counts) Refusal} (k
 
     -- path k is spelled
     pub answered_path : {out out' : List ℕ} (a : Result ℕ Refusal) {p : PathWords} → k < n.paths → PathIs text work b n k p
-        → Answered out out' (answer_in a) (of_spelt (length out) (spell complement (segments_of text work b n) (steps_from text work b p.first p.end)))
+        → Answered out out' (answer_in a) (of_spelt (length out) (spell complement (segments_of text work b n) (steps_from text work b p.steps.first p.steps.end)))
         → Answered out out' (answer_in a) (spell_path text k (length out) (length before))
     unfolding spell_path spell_entries of_path
     answered_path a l q =

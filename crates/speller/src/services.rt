@@ -13,26 +13,26 @@ use refusals::refusal::Refusal;
 use spelling::spelling::put_spelling;
 use tables::entry::PathNo;
 use tables::graph::Graph;
+use tables::path_steps::Steps;
 use work::work::clear;
 use writers::writer::Writer;
 
-// What the steps from step `first` up to `end` spell. It is measured on an empty buffer, and written where it fits.
-fn spell_steps(graph: &Graph, out: &mut [u8], first: usize, end: usize) -> Result<usize, Refusal>
-    requires low { first ≤ end }
-    requires high { end ≤ graph.now.n.steps }
+// What some steps spell. It is measured on an empty buffer, and written where it fits.
+fn spell_steps(graph: &Graph, out: &mut [u8], steps: Steps) -> Result<usize, Refusal>
+    requires { steps.end ≤ graph.now.n.steps }
     ensures { Answered out.old out.new (answer_in result) (of_spelt (length out.old)
-        (spell complement (segments_of graph.now.text.now graph.now.work.now graph.now.b graph.now.n) (steps_from graph.now.text.now graph.now.work.now graph.now.b first end))) }
+        (spell complement (segments_of graph.now.text.now graph.now.work.now graph.now.b graph.now.n) (steps_from graph.now.text.now graph.now.work.now graph.now.b steps.first steps.end))) }
 {
     let room = out.len();
     let mut nothing = [0u8; 0];
     let mut w = Writer::new(&mut nothing, room + 1);
-    put_spelling(&mut w, graph, first, end)?;
+    put_spelling(&mut w, graph, steps)?;
     let need = w.at;
     if room < need {
         return Err(Refusal::of(Reason::ShortOutput));
     }
     // No step is bad, as was seen.
-    let _ = put_spelling(&mut Writer::new(out, room + 1), graph, first, end);
+    let _ = put_spelling(&mut Writer::new(out, room + 1), graph, steps);
     Ok(need)
 }
 
@@ -47,7 +47,7 @@ fn answer_path(text: &[u8], k: usize, out: &mut [u8], work: &mut [u32]) -> Resul
     }
     let graph = Graph { text, work, b, n };
     let path = graph.path(PathNo(k as u32));
-    spell_steps(&graph, out, path.first, path.end)
+    spell_steps(&graph, out, path.steps)
 }
 
 // Spells path `k`, counted from 0, into `out`. The work area is all zero afterwards.

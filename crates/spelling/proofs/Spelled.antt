@@ -216,10 +216,10 @@ module _ {text work : List ℕ} {b : Bases} {n : Counts} where
   seeking_end {i} k h = record { first = λ es s p. k.left es s p ∙ rw (paths_none text work b n i h) }
 
   module _ {i : ℕ} {before after : Writer} {p : PathWords} {r : Result (Unit {0}) Refusal} (k : Seeking text work b n i) (h : i < n.paths) (q : PathIs text work b n i p)
-      (one : SpeltIs text before (spell complement (segments_of text work b n) (steps_from text work b p.first p.end)) after r) where
+      (one : SpeltIs text before (spell complement (segments_of text work b n) (steps_from text work b p.steps.first p.steps.end)) after r) where
     -- what path i spells
     here : (es : List Entry) (s : Spelt) → segments es ≡ segments_of text work b n
-        → spell complement (segments_of text work b n) (steps_from text work b p.first p.end) ≡ s → spell complement (segments es) (path_no text work b i).steps ≡ s
+        → spell complement (segments_of text work b n) (steps_from text work b p.steps.first p.steps.end) ≡ s → spell complement (segments es) (path_no text work b i).steps ≡ s
     here es s g e = rw (g, q.path) e
 
     pub seeking_more : {u : Unit {0}} → r ≡ Ok u → Seeking text work b n (i + 1)

@@ -13,6 +13,7 @@ use scan::places::Place;
 use sequences::oriented::put_oriented;
 use tables::entry::PathNo;
 use tables::graph::Graph;
+use tables::path_steps::Steps;
 use writers::writer::Writer;
 
 // The sequence of the segment that has the name.
@@ -58,14 +59,13 @@ pub fn put_step(w: &mut Writer, graph: &Graph, i: usize) -> Result<(), Refusal>
     Ok(())
 }
 
-// Puts what the steps from step `first` up to `end` spell: their sequences, joined with no regard to overlaps.
-pub fn put_spelling(w: &mut Writer, graph: &Graph, first: usize, end: usize) -> Result<(), Refusal>
-    requires low { first ≤ end }
-    requires high { end ≤ graph.now.n.steps }
+// Puts what some steps spell: their sequences, joined with no regard to overlaps.
+pub fn put_spelling(w: &mut Writer, graph: &Graph, steps: Steps) -> Result<(), Refusal>
+    requires { steps.end ≤ graph.now.n.steps }
     ensures { SpeltIs graph.now.text.now w.old
-        (spell complement (segments_of graph.now.text.now graph.now.work.now graph.now.b graph.now.n) (steps_from graph.now.text.now graph.now.work.now graph.now.b first end)) w.new result }
+        (spell complement (segments_of graph.now.text.now graph.now.work.now graph.now.b graph.now.n) (steps_from graph.now.text.now graph.now.work.now graph.now.b steps.first steps.end)) w.new result }
 {
-    for i in first..end {
+    for i in steps.first..steps.end {
         put_step(w, graph, i)?;
     }
     Ok(())
@@ -78,12 +78,7 @@ pub fn bad_step(graph: &Graph) -> Result<(), Refusal>
     for i in 0..graph.n.paths {
         let path = graph.path(PathNo(i as u32));
         let mut nothing = [0u8; 0];
-        put_spelling(
-            &mut Writer::new(&mut nothing, 0),
-            graph,
-            path.first,
-            path.end,
-        )?;
+        put_spelling(&mut Writer::new(&mut nothing, 0), graph, path.steps)?;
     }
     Ok(())
 }

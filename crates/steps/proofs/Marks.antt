@@ -14,7 +14,7 @@ use Rattle.gfa_spec.specs.Reading.{is_mark, orientation_of, walk}
 use Rattle.scan.specs.declared.places.Place.{Place}
 use Rattle.scan.specs.Places.{part_at}
 use Rattle.steps.specs.declared.walks.Walk.{Walk}
-use Rattle.steps.specs.WalkSteps.{steps_from, steps_left, AllSteps, StepGiven}
+use Rattle.steps.specs.WalkSteps.{walk_from, steps_left, AllSteps, StepGiven}
 use Rattle.steps.specs.StepFields.{MarkIs}
 use Rattle.scan.proofs.Cutting.{part_range}
 use Rattle.scan.proofs.LineEnds as lines
@@ -104,25 +104,25 @@ module _ {text : List ℕ} {from to : ℕ} where
 
 -- ---- the steps that are left
 
-from_slice : (text : List ℕ) (at end : ℕ) → at ≤ end → steps_from text at end ≡ (walk at (slice at end text)).steps
-unfolding steps_from
-from_slice text at end h = rw (steps_from, part_range at end text h)
+from_slice : (text : List ℕ) (at end : ℕ) → at ≤ end → walk_from text at end ≡ (walk at (slice at end text)).steps
+unfolding walk_from
+from_slice text at end h = rw (walk_from, part_range at end text h)
 
 -- none are left at the end
-pub no_steps : (text : List ℕ) (at end : ℕ) → at ≡ end → steps_from text at end ≡ []
+pub no_steps : (text : List ℕ) (at end : ℕ) → at ≡ end → walk_from text at end ≡ []
 no_steps text at end e = from_slice text at end (omega arith) ∙ rw (e, walk_none)
 
 -- they are those from the next mark on
-found : {text : List ℕ} {from to at : ℕ} → MarkIs text from to at → steps_from text from to ≡ (walk at (slice at to text)).steps
-unfolding steps_from
+found : {text : List ℕ} {from to at : ℕ} → MarkIs text from to at → walk_from text from to ≡ (walk at (slice at to text)).steps
+unfolding walk_from
 found {text} {to = to} {at = at} m = m.steps ∙ rw (part_range at to text m.high)
 
 -- nothing is given yet
 pub all_steps : {s : Walk} {text : List ℕ} {p : Place} → s.text.now ≡ text → s.at ≡ p.start → s.end ≡ p.start + p.size → AllSteps text p s
-unfolding steps_from
+unfolding walk_from
 all_steps {p = p} q e f =
     let n : p.start + p.size - p.start ≡ p.size = omega arith in
-    record { same = q; front = e; end = f; left = rw (q, e, f, steps_from, n) }
+    record { same = q; front = e; end = f; left = rw (q, e, f, walk_from, n) }
 
 module _ {s : Walk} {at : ℕ} (inside : s.end ≤ length s.text.now) (m : MarkIs s.text.now s.at s.end at) where
   -- no mark is left

@@ -15,7 +15,6 @@ use Rattle.scan.specs.Places.{part_at, bytes_in, FoundAt, FewFields}
 use Rattle.work.specs.Rows.{rows_at}
 use Rattle.tables.specs.Steps.{steps_at}
 use Rattle.steps.specs.declared.step_field.StepField.{StepField}
-use Rattle.steps.specs.StepFields.{StepsIs}
 use Rattle.steps.specs.FieldSteps.{PutsSteps}
 use Rattle.steps.proofs.FieldSteps.{same_none}
 use Rattle.tables.specs.declared.kinds.PathKind.{PathKind}
@@ -63,22 +62,24 @@ module _ {f : StepField} {t : Bool} (i : t ≡ same (bytes_in f.text.now f.field
         let b = part f.field.start f.field.size f.text.now in
         puts_as (rw (sym i ∙ e, ends.non_empty b (omega (arith, n, length_part f.field.start f.field.size f.text.now f.inside)))) h
 
--- by the kind, where the work area comes back
-module _ {f g : StepField} {kind : PathKind} {c : Result ℕ Reason} {work : List ℕ} (e : work ≡ g.work.now) where
+-- by the kind
+module _ {f g : StepField} {kind : PathKind} {c : Result ℕ Reason} where
   pub of_p_line : kind ≡ kinds.P → PutsSteps f (parse_psteps (part_at f.text.now f.field.start f.field.size)) c g
-      → StepsIs f.text.now f.work.now work f.base f.field.size (steps_of (kind_in kind) (part_at f.text.now f.field.start f.field.size)) c
+      → PutsSteps f (steps_of (kind_in kind) (part_at f.text.now f.field.start f.field.size)) c g
   unfolding steps_of
-  of_p_line k h = rw (k, e) h.steps
+  of_p_line k h = rw k h
 
   pub of_w_line : kind ≡ kinds.W → PutsSteps f (parse_wsteps (part_at f.text.now f.field.start f.field.size)) c g
-      → StepsIs f.text.now f.work.now work f.base f.field.size (steps_of (kind_in kind) (part_at f.text.now f.field.start f.field.size)) c
+      → PutsSteps f (steps_of (kind_in kind) (part_at f.text.now f.field.start f.field.size)) c g
   unfolding steps_of
-  of_w_line k h = rw (k, e) h.steps
+  of_w_line k h = rw k h
 
 -- what the reading of a field goes on by
 pub ruleset of_p = (p_star, p_items)
 
 pub ruleset of_w = (w_star, w_none, w_walk)
+
+pub ruleset by_kind = (of_p_line, of_w_line)
 
 -- ---- the line
 

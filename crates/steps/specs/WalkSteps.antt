@@ -9,12 +9,12 @@ use Rattle.tables.specs.ByNumber.{step_of}
 use Rattle.steps.specs.declared.walks.Walk.{Walk}
 
 -- the steps of what stands from `at` up to `end`
-unfoldable pub steps_from : List ℕ → ℕ → ℕ → List Step
-steps_from text at end = (walk at (part at (end - at) text)).steps
+unfoldable pub walk_from : List ℕ → ℕ → ℕ → List Step
+walk_from text at end = (walk at (part at (end - at) text)).steps
 
 -- the steps that are left
 abbrev pub steps_left : Walk → List Step
-steps_left s = steps_from s.text.now s.at s.end
+steps_left s = walk_from s.text.now s.at s.end
 
 -- All steps of the place are left.
 pub record AllSteps (text : List ℕ) (p : Place) (s : Walk) : Type 0 where

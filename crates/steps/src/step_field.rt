@@ -6,9 +6,9 @@ use scan::places::Place;
 
 // A field whose steps are put into the step table, from the word `base` on, which has room for a step for each byte of the field.
 #[derive(Drop)]
-pub struct StepField<'a> {
+pub struct StepField<'a, 'b> {
     pub text: &'a [u8],
-    pub work: &'a mut [u32],
+    pub work: &'b mut [u32],
     pub base: usize,
     pub field: Place,
     ghost inside: { Inside text.now field },

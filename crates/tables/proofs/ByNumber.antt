@@ -5,6 +5,7 @@ use native.Mathlib.Numerals.{add-one}
 use mathlib.Core.List.{List, [], ◌∷◌, ◌++◌}
 use mathlib.Core.Path.{◌≡◌, refl, ap, ◌∙◌}
 use lib.ListN.{length, get_or}
+use Rattle.tables.specs.declared.path_steps.Steps.{Steps}
 use Rattle.tables.specs.declared.tables.Bases.{Bases}
 use Rattle.tables.specs.declared.tables.Counts.{Counts}
 use Rattle.tables.specs.declared.entry.Record.{Record}
@@ -57,15 +58,16 @@ module _ {text work : List ℕ} {b : Bases} {n : Counts} (t : Readable text work
         let q = t.sound.links.row i h in
         rw (el, ef, et, next at 2, next at 5) (record { link = rw (ea, ee); line = q.line; from = q.from; to = q.to })
 
-  module _ {line : Place} {word first count : ℕ} {kind : PathKind} (p : ℕ) (h : p < n.paths) where
-    pub path_is : first ≡ get_or work (b.paths + 5 * p + 3) 0 → count ≡ get_or work (b.paths + 5 * p + 4) 0 → word ≡ get_or work (b.paths + 5 * p) 0 → kind_in kind ≡ kind_of word
-        → line ≡ place_at work (b.paths + 5 * p + 1) → PathIs text work b n p (record { kind = kind; line = line; first = first; end = first + count })
+  module _ {line : Place} {word count : ℕ} {kind : PathKind} {steps : Steps} (p : ℕ) (h : p < n.paths) where
+    pub path_is : steps.first ≡ get_or work (b.paths + 5 * p + 3) 0 → count ≡ get_or work (b.paths + 5 * p + 4) 0 → steps.end ≡ steps.first + count → word ≡ get_or work (b.paths + 5 * p) 0
+        → kind_in kind ≡ kind_of word → line ≡ place_at work (b.paths + 5 * p + 1) → PathIs text work b n p (record { kind = kind; line = line; steps = steps })
     unfolding path_at
-    path_is ef ec ew ek el =
+    path_is ef ec ee ew ek el =
         let at = b.paths + 5 * p in
         let q = t.sound.paths.row p h in
-        let z : first + count - first ≡ count = omega arith in
-        rw el (record { path = rw (z, ek, ew, ef, ec, next at 1); line = rw (next at 1) q.line; low = omega arith; high = omega arith })
+        let z : steps.end - steps.first ≡ count = omega (arith, ee) in
+        let high : steps.end ≤ n.steps = rw (ee, ef, ec) (omega (arith, q)) in
+        rw el (record { path = rw (z, ek, ew, ef, ec, next at 1); line = rw (next at 1) q.line; high = high })
 
   module _ {name : Place} {mark : Orientation} (i : ℕ) (h : i < n.steps) where
     pub step_told : name ≡ place_at work (b.steps + 3 * i) → sign_of mark ≡ get_or work (b.steps + 3 * i + 2) 0 → StepIs text work b i (record { name = name; mark = mark })

@@ -93,7 +93,7 @@ abbrev pub link_words : LinkWords → List ℕ
 link_words l = l.line.start ∷ l.line.size ∷ l.from.start ∷ l.from.size ∷ sign_of l.leaves ∷ l.to.start ∷ l.to.size ∷ sign_of l.enters ∷ []
 
 abbrev pub path_words : PathWords → List ℕ
-path_words p = kind_word p.kind ∷ p.line.start ∷ p.line.size ∷ p.first ∷ (p.end - p.first) ∷ []
+path_words p = kind_word p.kind ∷ p.line.start ∷ p.line.size ∷ p.steps.first ∷ (p.steps.end - p.steps.first) ∷ []
 
 abbrev pub step_words : StepWords → List ℕ
 step_words s = s.name.start ∷ s.name.size ∷ sign_of s.mark ∷ []
@@ -123,11 +123,10 @@ pub record PathIs (text work : List ℕ) (b : Bases) (n : Counts) (p : ℕ) (r :
       ≡ record {
         kind = kind_in r.kind;
         fields = path_fields (kind_in r.kind) (fields (part_at text r.line.start r.line.size));
-        steps = steps_from text work b r.first r.end;
+        steps = steps_from text work b r.steps.first r.steps.end;
       }
   pub line : Inside text r.line
-  pub low : r.first ≤ r.end
-  pub high : r.end ≤ n.steps
+  pub high : r.steps.end ≤ n.steps
 
 -- The words are those of step i.
 pub record StepIs (text work : List ℕ) (b : Bases) (i : ℕ) (r : StepWords) : Type 0 where

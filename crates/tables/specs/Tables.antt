@@ -14,7 +14,7 @@ use Rattle.tables.specs.Entries.{entries_at, EntryRow}
 
 -- ---- counts
 
--- no count is large: so each fits into a word
+-- no count is large: so each fits into a word. Asked where counts are added to, and of the new steps' sums.
 abbrev pub Few : Counts → Type 0
 Few n = (n.lines ≤ 2097152) × (n.segs ≤ 2097152) × (n.links ≤ 2097152) × (n.paths ≤ 2097152) × (n.steps ≤ 2097152)
 
@@ -54,7 +54,8 @@ rows_of b n m =
     ∷ span (b.steps + 3 * n.steps) (b.steps + 3 * m.steps)
     ∷ []
 
--- The tables stand one behind the other. From the step table's base on there is a share of words for each row.
+-- The tables stand one behind the other. From the step table's base on there is a share of words for each row. Asked where places behind the tables
+-- are computed, of bases and counts alone; `Readable` holds it of tables that are read.
 pub record Laid (b : Bases) (n : Counts) (room : ℕ) : Type 0 where
   pub lines : b.lines + 3 * n.lines ≤ b.segs
   pub segs : b.segs + 6 * n.segs ≤ b.links

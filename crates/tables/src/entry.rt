@@ -3,7 +3,10 @@ ghost use Rattle.std.specs.Prelude.{◌≡◌, ◌+◌, ◌≤◌, length};
 ghost use Rattle.work.specs.Rows.{Small};
 ghost use Rattle.tables.specs.Entries.{words_of, record_at};
 
-// Numbers of segments, of links and of paths, each counted from 0: three types, so that none is taken for another.
+use scan::places::Place;
+
+// Numbers of segments, of links and of paths, each counted from 0: three types, so that none is taken for another. A word of the work area is a
+// u32, and a place in memory a usize: `as` makes one of the other, since usize has no `From<u32>`, and the check proves what fits.
 #[derive(Clone, Copy)]
 pub struct SegmentNo(pub u32);
 
@@ -18,6 +21,17 @@ pub struct PathNo(pub u32);
 pub struct RawLine {
     pub start: u32,
     pub length: u32,
+}
+
+impl From<RawLine> for Place {
+    ghost from_gives = { λ l r. r ≡ record { start = l.start; size = l.length } };
+
+    fn from(l: RawLine) -> Place {
+        Place {
+            start: l.start as usize,
+            size: l.length as usize,
+        }
+    }
 }
 
 // What a line holds: a numbered record, or a raw line of one of four sorts.

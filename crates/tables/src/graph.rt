@@ -10,6 +10,7 @@ ghost use Rattle.tables.specs.ByNumber.{tables_end, place_at, LineIs, SegmentIs,
 
 use crate::entry::{LineEntry, LinkNo, PathNo, SegmentNo, record_at};
 use crate::kinds::PathKind;
+use crate::path_steps::Steps;
 use crate::rows::{LinkWords, PathWords, SegmentWords, StepWords};
 use crate::segments::{find_segment, place_at};
 use crate::tables::{Bases, Counts, LINE, LINK, PATH, SEGMENT, STEP};
@@ -75,7 +76,6 @@ impl<'a> Graph<'a> {
     }
 
     // Path `p`.
-    #[tactic(auto, using(crate::proofs::ByNumber::path_is))]
     pub fn path(&self, p: PathNo) -> PathWords
         requires { p.0 < self.now.n.paths }
         ensures { PathIs self.now.text.now self.now.work.now self.now.b self.now.n p.0 result }
@@ -86,8 +86,10 @@ impl<'a> Graph<'a> {
         PathWords {
             kind: PathKind::of(word(self.work, at)),
             line: place_at(self.work, at + 1),
-            first,
-            end: first + count,
+            steps: Steps {
+                first,
+                end: first + count,
+            },
         }
     }
 

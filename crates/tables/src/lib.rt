@@ -4,6 +4,7 @@
 pub mod entry;
 pub mod graph;
 pub mod kinds;
+pub mod path_steps;
 pub mod rows;
 pub mod segments;
 pub mod tables;

@@ -8,6 +8,7 @@ ghost use Rattle.tables.specs.ByNumber.{segment_words, link_words, path_words, s
 
 use crate::entry::{LineEntry, LinkNo, PathNo, SegmentNo, words_of};
 use crate::kinds::PathKind;
+use crate::path_steps::Steps;
 use crate::tables::{Bases, LINE, LINK, PATH, SEGMENT, STEP};
 use scan::orientation::Orientation;
 use scan::places::Place;
@@ -31,13 +32,12 @@ pub struct LinkWords {
     pub enters: Orientation,
 }
 
-// A path's row: its kind, its line, and its steps, from the first up to, not including, `end`.
+// A path's row: its kind, its line, and its steps.
 #[derive(Clone, Copy)]
 pub struct PathWords {
     pub kind: PathKind,
     pub line: Place,
-    pub first: usize,
-    pub end: usize,
+    pub steps: Steps,
 }
 
 // A step's row.
@@ -107,7 +107,7 @@ pub fn put_link(work: &mut [u32], b: Bases, i: LinkNo, l: LinkWords)
 
 // Puts path `p`.
 pub fn put_path(work: &mut [u32], b: Bases, p: PathNo, w: PathWords)
-    requires { (b.paths + 5 * p.0 + 5 ≤ length work.old) × (w.first ≤ w.end) × Small (w.line.start ∷ w.line.size ∷ w.end ∷ []) }
+    requires { (b.paths + 5 * p.0 + 5 ≤ length work.old) × Small (w.line.start ∷ w.line.size ∷ w.steps.end ∷ []) }
     ensures { work.new ≡ sets work.old (b.paths + 5 * p.0) (path_words w) }
 {
     let at = b.paths + PATH * p.0 as usize;
@@ -118,8 +118,8 @@ pub fn put_path(work: &mut [u32], b: Bases, p: PathNo, w: PathWords)
             w.kind.word(),
             w.line.start,
             w.line.size,
-            w.first,
-            w.end - w.first,
+            w.steps.first,
+            w.steps.end - w.steps.first,
         ],
     );
 }

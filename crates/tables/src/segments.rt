@@ -22,7 +22,7 @@ pub fn place_at(work: &[u32], at: usize) -> Place
     }
 }
 
-// The first of `count` segments that has the name.
+// The first of `count` segments that has the name. Row after row: the tables lie in a lent work area, and a map would want a heap.
 #[tactic(auto, using(crate::proofs::Numbers::finding))]
 pub fn find_segment(
     text: &[u8],

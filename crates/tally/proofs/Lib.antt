@@ -1,4 +1,5 @@
 -- Laws of the two passes, in reading order.
+pub mod Countings
 pub mod PathCounting
 pub mod Names
 pub mod NodeRows

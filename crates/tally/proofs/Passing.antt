@@ -131,15 +131,15 @@ module _ {text before : List ℕ} {b : Bases} {n : Counts} {m : ℕ} where
     kept = recounted_below s.frame b.lines
 
     -- its steps
-    its_steps : (path_no text before b p).steps ≡ steps_from text work b r.first r.end
+    its_steps : (path_no text before b p).steps ≡ steps_from text work b r.steps.first r.steps.end
     its_steps = ap (λ q. q.steps) (sym (path_stands s.tabled.readable kept p h) ∙ is.path)
 
     -- the steps so far, with it
-    steps_more : steps_in (paths_to text before b (p + 1)) ≡ steps_in (paths_to text before b p) + (r.end - r.first)
+    steps_more : steps_in (paths_to text before b (p + 1)) ≡ steps_in (paths_to text before b p) + (r.steps.end - r.steps.first)
     steps_more = rw (paths_more text before b p, steps_append) (ap (λ k. steps_in (paths_to text before b p) + k) one)
       where
-        one : steps_in (path_no text before b p ∷ []) ≡ r.end - r.first
-        one = unfold steps_in sum in omega (arith, ap length its_steps, steps_length text work b r.first r.end)
+        one : steps_in (path_no text before b p ∷ []) ≡ r.steps.end - r.steps.first
+        one = unfold steps_in sum in omega (arith, ap length its_steps, steps_length text work b r.steps.first r.steps.end)
 
     steps_all : steps_in (paths_to text before b (p + 1)) ≤ n.steps
     unfolding over_rows steps_in
@@ -148,10 +148,10 @@ module _ {text before : List ℕ} {b : Bases} {n : Counts} {m : ℕ} where
         let back = paths_from text before b n (p + 1) in
         omega (arith, s.tabled.visits, ap steps_in (paths_cut text before b n (p + 1) (omega arith)), steps_append front back)
 
-    pub passing_fits : FitRows (r.end - r.first) p work (tables_end b n) m
+    pub passing_fits : FitRows (r.steps.end - r.steps.first) p work (tables_end b n) m
     passing_fits = fit_less s.fits (omega (arith, steps_more, steps_all)) (omega arith)
 
-    pub passing_more : {work' : List ℕ} → PathCounted text work work' b n m r.first r.end p → Passing text before work' b n m (p + 1)
+    pub passing_more : {work' : List ℕ} → PathCounted text work work' b n m r.steps.first r.steps.end p → Passing text before work' b n m (p + 1)
     passing_more {work'} q =
         let left = n.steps - steps_in (paths_to text before b (p + 1)) in
         record {

@@ -34,6 +34,7 @@ use Rattle.nodes.proofs.Paths.{below_more, below_word}
 use Rattle.nodes.proofs.Counting.{finish_here, finish_elsewhere}
 use Rattle.nodes.proofs.Stored.{node_other, counter_other, put_within}
 use Rattle.nodes.proofs.Finding.{found, nowhere}
+use Rattle.tables.specs.Tables.{Readable}
 use Rattle.tally.specs.Visits.{FitRows, Countable, Passable, Recounted, RunCounted, GoesOn, NextCounted}
 
 -- ---- counters that change
@@ -60,8 +61,12 @@ module _ {w w' : List ℕ} {table m : ℕ} (r : Recounted w w' table m) where
         apart = record { differ = λ i j h k. rw (r.nodes_same i (omega arith), r.nodes_same j k) (c.apart.differ i j h k) };
       }
 
+-- tables that may be read stand
+pub run_readable : {text w w' : List ℕ} {b : Bases} {n : Counts} {table m : ℕ} → Readable text w b n → table ≡ tables_end b n → Recounted w w' table m → Readable text w' b n
+run_readable {b = b} t at r = let q = rw at at r in readable_stands t (recounted_below q b.lines) r.long
+
 pub passable_stands : {text w w' : List ℕ} {b : Bases} {n : Counts} {m : ℕ} → Recounted w w' (tables_end b n) m → Passable text w b n m → Passable text w' b n m
-passable_stands {b = b} r p = record { readable = readable_stands p.readable (recounted_below r b.lines) r.long; countable = countable_stands r p.countable }
+passable_stands r p = record { readable = run_readable p.readable refl r; countable = countable_stands r p.countable }
 
 -- ---- numbers that fit
 
@@ -203,7 +208,3 @@ module _ {text w : List ℕ} {b : Bases} {n : Counts} {m i end path r : ℕ} (u 
   pub next_counted : {w' : List ℕ} {table : ℕ} {s : StepWords} {more : Bool} → Passable text w b n m → table ≡ tables_end b n → StepIs text w b i s → GoesOn text w b s.name r end more
       → RunCounted text w w' table m s.name (r - i) path more → NextCounted text w w' b n m i end path r
   next_counted p at is g c = next_here p is g (rw at at c)
-
--- what is asked of the run
-pub next_ready : {text w : List ℕ} {b : Bases} {n : Counts} {m table : ℕ} → Passable text w b n m → table ≡ tables_end b n → Countable text w table m
-next_ready p at = rw at p.countable

@@ -16,7 +16,7 @@ use Rattle.nodes.specs.declared.nodes.NodeWords.{NodeWords}
 use Rattle.nodes.specs.Counters.{no_counter}
 use Rattle.nodes.specs.Table.{nodes_end, RowPut, marked_of, CountRows, NodeTable}
 
--- The tables of a text stand in the work area: the node table begins behind them. Asked where the three passes over them begin.
+-- The tables of a text stand in the work area: the node table begins behind them. Asked where the passes over them begin.
 pub record Tabled (text work : List ℕ) (b : Bases) (n : Counts) : Type 0 where
   pub readable : Readable text work b n
   pub short : length text ≤ 1048576
@@ -46,7 +46,8 @@ pub record NodesIs (text before work : List ℕ) (b : Bases) (n : Counts) (i m :
 
 -- What is asked before link i is counted: the node table of the links before it.
 pub record LinkReady (text work : List ℕ) (b : Bases) (n : Counts) (i m : ℕ) : Type 0 where
-  pub tabled : Tabled text work b n
+  pub readable : Readable text work b n
+  pub short : length text ≤ 1048576
   pub below : i < n.links
   pub table : NodeTable text (segments_of text work b n) (links_to text work b i) work (tables_end b n) m
   pub fresh : CountRows text [] work (tables_end b n) m

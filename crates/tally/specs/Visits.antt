@@ -17,6 +17,7 @@ pub record FitRows (left path : ℕ) (work : List ℕ) (table m : ℕ) : Type 0 
   pub row : (k : ℕ) → k < m → CounterFits left path (counter_no work table k)
 
 -- What is asked before a node is counted: its table lies in the work area, its rows name parts of the text, and no two of them one name.
+-- `Counting` does not hold it: the pass over the links goes by that struct too, and makes the rows.
 pub record Countable (text work : List ℕ) (table m : ℕ) : Type 0 where
   pub names : NamesInside text work table m
   pub apart : Differ text work table m

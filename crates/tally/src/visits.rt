@@ -4,8 +4,10 @@ ghost use Rattle.scan.specs.Places.{Inside};
 ghost use Rattle.tables.specs.ByNumber.{tables_end};
 ghost use Rattle.nodes.specs.Table.{CountRows};
 ghost use Rattle.tally.specs.Tabled.{Tabled};
-ghost use Rattle.tally.specs.Visits.{FitRows, Countable, Passable, RunCounted, GoesOn, NextCounted, PathCounted, PathsCounted};
+ghost use Rattle.tally.specs.Visits.{FitRows, Countable, RunCounted, GoesOn};
+ghost use Rattle.tally.specs.Countings.{CountsNext, CountsPath, CountsPaths};
 
+use crate::counting::Counting;
 use nodes::counters::{counted, counter_at, put_counter};
 use nodes::nodes::find_row;
 use runs::runs::run_from;
@@ -13,9 +15,9 @@ use scan::names::same_name;
 use scan::places::Place;
 use tables::entry::PathNo;
 use tables::graph::Graph;
-use tables::tables::{Bases, Counts};
+use tables::path_steps::Steps;
 
-// Counts a run of `times` steps on a name, for the node that has it; `more`: the step behind the run is on the name too.
+// Counts a run of `times` steps on a name, for the node that has it. It takes what it needs of a `Counting`, and asks nothing of the tables; `more`: the step behind the run is on the name too.
 pub fn count_run(
     text: &[u8],
     work: &mut [u32],
@@ -46,57 +48,43 @@ pub fn goes_on(graph: &Graph, name: Place, r: usize, end: usize) -> bool
 }
 
 // Counts the run from step `i` on, of the steps before step `end`; answers where it ends.
-pub fn count_next(
-    text: &[u8],
-    work: &mut [u32],
-    b: Bases,
-    n: Counts,
-    m: usize,
-    i: usize,
-    end: usize,
-    path: PathNo,
-) -> usize
-    requires { Passable text.now work.old b n m × (i < end) × (end ≤ n.steps) × (path.0 < 2097152) × FitRows (end - i) path.0 work.old (tables_end b n) m }
-    ensures { NextCounted text.now work.old work.new b n m i end path.0 result }
+pub fn count_next(nodes: &mut Counting, i: usize, end: usize, path: PathNo) -> usize
+    requires countable { Countable nodes.old.text.now nodes.old.work.now (tables_end nodes.old.b nodes.old.n) nodes.old.m }
+    requires fits { (i < end) × (end ≤ nodes.old.n.steps) × (path.0 < 2097152) × FitRows (end - i) path.0 nodes.old.work.now (tables_end nodes.old.b nodes.old.n) nodes.old.m }
+    ensures { CountsNext nodes.old i end path.0 result nodes.new }
 {
-    let graph = Graph { text, work, b, n };
+    let m = nodes.m;
+    let graph = nodes.graph();
     let table = graph.end();
     let r = run_from(&graph, i, end);
     let name = graph.step(i).name;
     let more = goes_on(&graph, name, r, end);
-    count_run(text, work, table, m, name, r - i, path, more);
+    count_run(nodes.text, nodes.work, table, m, name, r - i, path, more);
     r
 }
 
-// Counts the steps from `first` up to `end`.
-pub fn count_path(
-    text: &[u8],
-    work: &mut [u32],
-    b: Bases,
-    n: Counts,
-    m: usize,
-    first: usize,
-    end: usize,
-    path: PathNo,
-)
-    requires { Passable text.now work.old b n m × (first ≤ end) × (end ≤ n.steps) × (path.0 < 2097152) × FitRows (end - first) path.0 work.old (tables_end b n) m }
-    ensures { PathCounted text.now work.old work.new b n m first end path.0 }
+// Counts some steps, of path `path`.
+pub fn count_path(nodes: &mut Counting, steps: Steps, path: PathNo)
+    requires countable { Countable nodes.old.text.now nodes.old.work.now (tables_end nodes.old.b nodes.old.n) nodes.old.m }
+    requires fits { (steps.end ≤ nodes.old.n.steps) × (path.0 < 2097152) × FitRows (steps.end - steps.first) path.0 nodes.old.work.now (tables_end nodes.old.b nodes.old.n) nodes.old.m }
+    ensures { CountsPath nodes.old steps.first steps.end path.0 nodes.new }
 {
-    let mut i = first;
+    let mut i = steps.first;
     // No `for` over `Runs`: each turn writes the work area, which the runs' graph would hold lent across the loop.
-    while i < end {
-        i = count_next(text, work, b, n, m, i, end, path);
+    while i < steps.end {
+        i = count_next(nodes, i, steps.end, path);
     }
 }
 
-// Counts all paths for the `m` nodes of the table.
-pub fn count_paths(text: &[u8], work: &mut [u32], b: Bases, n: Counts, m: usize)
-    requires { Tabled text.now work.old b n × Countable text.now work.old (tables_end b n) m × CountRows text.now [] work.old (tables_end b n) m }
-    ensures { PathsCounted text.now work.old work.new b n m }
+// Counts all paths for the nodes of the table.
+pub fn count_paths(nodes: &mut Counting)
+    requires tabled { Tabled nodes.old.text.now nodes.old.work.now nodes.old.b nodes.old.n }
+    requires fresh { Countable nodes.old.text.now nodes.old.work.now (tables_end nodes.old.b nodes.old.n) nodes.old.m × CountRows nodes.old.text.now [] nodes.old.work.now (tables_end nodes.old.b nodes.old.n) nodes.old.m }
+    ensures { CountsPaths nodes.old nodes.new }
 {
-    for p in 0..n.paths {
+    for p in 0..nodes.n.paths {
         let no = PathNo(p as u32);
-        let path = Graph { text, work, b, n }.path(no);
-        count_path(text, work, b, n, m, path.first, path.end, no);
+        let path = nodes.graph().path(no);
+        count_path(nodes, path.steps, no);
     }
 }

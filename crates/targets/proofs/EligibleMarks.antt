@@ -29,7 +29,7 @@ use Rattle.normalize_tables.specs.Layout.{Source}
 use Rattle.normalize_tables.proofs.Sources.{source_behind}
 use Rattle.tables.specs.declared.graph.Graph.{Graph}
 use Rattle.targets.specs.declared.marks.Marker.{Marker}
-use Rattle.targets.specs.Markers.{GraphOf, MarksName, MarksLink}
+use Rattle.targets.specs.Markers.{MarkerGraph, MarksName, MarksLink}
 use Rattle.targets.proofs.Markers.{same_none, link_in}
 use Rattle.targets.specs.Marking.{Markable, Adds, NameMarked, LinkMarked, UnitsKept, MarkedIs}
 use Rattle.work.proofs.Filling.{Filling, filling_start, filling_ahead, filling_behind, filling_more, filling_end}
@@ -58,7 +58,7 @@ module _ {text w : List ℕ} {b : Bases} {n : Counts} {marks i : ℕ} {l : LinkW
   link_marked h a = record { adds = adds_alike a.adds (λ s. rw q.link (one_name (bytes_in text l.from) (bytes_in text l.to) s.id (sym e ∙ h))) }
 
 -- what a marker makes of a link
-module _ {m : Marker} {g : Graph} {i : ℕ} {l : LinkWords} {r : Bool} (o : GraphOf m g) (q : LinkIs g.text.now g.work.now g.b i l) (e : r ≡ is_self_link (link_of g.text.now l)) where
+module _ {m : Marker} {g : Graph} {i : ℕ} {l : LinkWords} {r : Bool} (o : MarkerGraph m g) (q : LinkIs g.text.now g.work.now g.b i l) (e : r ≡ is_self_link (link_of g.text.now l)) where
   pub passed_other : r ≡ false → MarksLink m i m
   passed_other h = record { same = same_none; adds = link_other (link_in o q) (rw o.text at e) m.markable h }
 

@@ -32,7 +32,7 @@ use Rattle.normalize_tables.proofs.Sources.{source_behind}
 use Rattle.normalize_tables.specs.Marks.{Marked}
 use Rattle.tables.specs.declared.graph.Graph.{Graph}
 use Rattle.targets.specs.declared.marks.Marker.{Marker}
-use Rattle.targets.specs.Markers.{GraphOf, MarksName, MarksNext}
+use Rattle.targets.specs.Markers.{MarkerGraph, MarksName, MarksNext}
 use Rattle.targets.proofs.Markers.{same_none, run_in, step_in}
 use Rattle.targets.specs.Marking.{Markable, Adds, NameMarked, is_run_on, NextMarked, PathMarked, both_at, sum_to, BothKept, MarkFoldedIs}
 use Rattle.work.proofs.Filling.{Filling, filling_start, filling_ahead, filling_behind, filling_more}
@@ -51,7 +51,7 @@ module _ {text w : List ℕ} {b : Bases} {n : Counts} {marks i end r : ℕ} (q :
       record { run = q; adds = adds_alike a.adds (λ t. rw (le-leb 2 (r - i) h, same_sym t.id (bytes_in text s.name), e.step)) }
 
 -- what a marker makes of a run
-module _ {m : Marker} {g : Graph} {i end r : ℕ} (o : GraphOf m g) (q : RunFrom g.text.now g.work.now g.b i end r) where
+module _ {m : Marker} {g : Graph} {i end r : ℕ} (o : MarkerGraph m g) (q : RunFrom g.text.now g.work.now g.b i end r) where
   pub passed_short : r - i < 2 → MarksNext m i end r m
   passed_short h = record { same = same_none; adds = next_short (run_in o q) m.markable h }
 
@@ -114,7 +114,7 @@ module _ {text before : List ℕ} {b : Bases} {n : Counts} {marks : ℕ} where
   visiting_start m = record { markable = m; high = omega arith; adds = rw paths_zero (adds_none m) }
 
   module _ {work : List ℕ} {p : ℕ} (s : Visiting text before work b n marks p) where
-    pub visiting_more : {work' : List ℕ} {r : PathWords} → p < n.paths → PathIs text work b n p r → PathMarked text work work' b n marks r.first r.end
+    pub visiting_more : {work' : List ℕ} {r : PathWords} → p < n.paths → PathIs text work b n p r → PathMarked text work work' b n marks r.steps.first r.steps.end
         → Visiting text before work' b n marks (p + 1)
     visiting_more h e q =
         let here = sym (path_stands s.markable.readable (tables_kept s.markable s.adds.only) p h) ∙ e.path in

@@ -114,12 +114,12 @@ pub record Walking (text work : List ℕ) (b : Bases) (n : Counts) (marks p : �
 
 module _ {text work : List ℕ} {b : Bases} {n : Counts} {marks : ℕ} where
   module _ {p : ℕ} (s : Looking text work b n marks p) where
-    walked_start : {r : PathWords} → p < n.paths → PathIs text work b n p r → Walked text work b n marks p r.end r.first
-    walked_start h q =
+    walked_start : {r : PathWords} → p < n.paths → PathIs text work b n p r → Walked text work b n marks p r.steps.end r.steps.first
+    walked_start {r} h q =
         record {
           markable = s.markable;
           here = h;
-          high = q.low;
+          high = r.steps.ordered;
           inside = q.high;
           left = λ t m. s.left t m ∙ rw (paths_next text work b n p h, q.path) (unfold any in refl);
         }
@@ -161,9 +161,9 @@ looked_none s h = any_is (looking_end s h)
 -- ---- the runs of a path
 
 module _ {text work : List ℕ} {b : Bases} {n : Counts} {p : ℕ} where
-  pub walking_start : {marks : ℕ} {q : PathWords} {of it : Runs} → Looking text work b n marks p → p < n.paths → PathIs text work b n p q → RunsOf text work b q.first q.end of → it ≡ of
+  pub walking_start : {marks : ℕ} {q : PathWords} {of it : Runs} → Looking text work b n marks p → p < n.paths → PathIs text work b n p q → RunsOf text work b q.steps.first q.steps.end of → it ≡ of
       → Walking text work b n marks p it
-  walking_start {q = q} s h is r e = record { at = q.first; end = q.end; ahead = rw e r; walked = walked_start s h is }
+  walking_start {q = q} s h is r e = record { at = q.steps.first; end = q.steps.end; ahead = rw e r; walked = walked_start s h is }
 
   module _ {marks : ℕ} {it it' : Runs} (s : Walking text work b n marks p it) where
     pub walking_end : NoRun it it' → Looking text work b n marks (p + 1)

@@ -12,7 +12,7 @@ use Rattle.tables.specs.ByNumber.{LinkIs, SegmentIs, PathIs, StepIs, NamedIs}
 use Rattle.runs.specs.Runs.{RunFrom}
 use mathlib.Core.Path.{refl, ◌∙◌}
 use Rattle.targets.specs.declared.marks.Marker.{Marker}
-use Rattle.targets.specs.Markers.{GraphOf, SameMarks}
+use Rattle.targets.specs.Markers.{MarkerGraph, SameMarks}
 
 pub same_none : {m : Marker} → SameMarks m m
 same_none = record { text = refl; loan = refl; bases = refl; counts = refl; base = refl }
@@ -21,7 +21,7 @@ pub same_then : {a b c : Marker} → SameMarks a b → SameMarks b c → SameMar
 same_then s t = record { text = t.text ∙ s.text; loan = t.loan ∙ s.loan; bases = t.bases ∙ s.bases; counts = t.counts ∙ s.counts; base = t.base ∙ s.base }
 
 -- a graph whose segments are marked reads what the marker has
-module _ {m : Marker} {g : Graph} (o : GraphOf m g) where
+module _ {m : Marker} {g : Graph} (o : MarkerGraph m g) where
   pub link_in : {i : ℕ} {l : LinkWords} → LinkIs g.text.now g.work.now g.b i l → LinkIs m.text.now m.work.now m.b i l
   link_in q = rw (o.text, o.work, o.bases) at q
 

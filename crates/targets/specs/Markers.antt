@@ -11,7 +11,7 @@ use Rattle.normalize_tables.specs.Normalizers.{SameTables}
 use Rattle.targets.specs.Marking.{Adds, NameMarked, LinkMarked, UnitsKept, MarkedIs, NextMarked, PathMarked, MarkFoldedIs}
 
 -- The graph whose segments are marked.
-pub record GraphOf (m : Marker) (g : Graph) : Type 0 where
+pub record MarkerGraph (m : Marker) (g : Graph) : Type 0 where
   pub text : g.text ≡ m.text
   pub work : g.work.now ≡ m.work.now
   pub bases : g.b ≡ m.b

@@ -10,6 +10,7 @@ use normalize_tables::rows::is_marked;
 use runs::runs::{Runs, run_from};
 use tables::entry::PathNo;
 use tables::graph::Graph;
+use tables::path_steps::Steps;
 use work::work::clear_words;
 
 // Is the run of `times` steps from step `i` on one of two or more, on a marked segment?
@@ -35,7 +36,7 @@ pub fn any_folded(tables: &Normalizer) -> bool
     let mut found = false;
     'paths: for p in 0..graph.n.paths {
         let path = graph.path(PathNo(p as u32));
-        for run in Runs::of(&graph, path.first, path.end) {
+        for run in Runs::of(&graph, path.steps) {
             if on_marked(&graph, tables.g.eligible, run.start, run.len()) {
                 found = true;
                 break 'paths;
@@ -61,15 +62,15 @@ pub fn mark_next(marks: &mut Marker, i: usize, end: usize) -> usize
     next
 }
 
-// Marks the segments that the steps from `first` up to `end` have a run of two or more on.
-pub fn mark_path(marks: &mut Marker, first: usize, end: usize)
-    requires { (first ≤ end) × (end ≤ marks.old.n.steps) }
-    ensures { MarksPath marks.old first end marks.new }
+// Marks the segments that these steps have a run of two or more on.
+pub fn mark_path(marks: &mut Marker, steps: Steps)
+    requires { steps.end ≤ marks.old.n.steps }
+    ensures { MarksPath marks.old steps.first steps.end marks.new }
 {
-    let mut i = first;
+    let mut i = steps.first;
     // No `for` over `Runs`: each turn writes the work area, which the runs' graph would hold lent across the loop.
-    while i < end {
-        i = mark_next(marks, i, end);
+    while i < steps.end {
+        i = mark_next(marks, i, steps.end);
     }
 }
 
@@ -79,7 +80,7 @@ pub fn mark_paths(marks: &mut Marker)
 {
     for p in 0..marks.n.paths {
         let path = marks.graph().path(PathNo(p as u32));
-        mark_path(marks, path.first, path.end);
+        mark_path(marks, path.steps);
     }
 }
 

@@ -20,11 +20,11 @@ pub struct Marker<'a, 'b> {
 }
 
 impl<'a, 'b> Marker<'a, 'b> {
-    ghost use Rattle.targets.specs.Markers.{GraphOf, MarksName};
+    ghost use Rattle.targets.specs.Markers.{MarkerGraph, MarksName};
 
-    // The graph whose segments are marked.
+    // The graph whose segments are marked, as `Normalizer::graph` gives its own.
     pub fn graph(&self) -> Graph<'_>
-        ensures { GraphOf self.now result }
+        ensures { MarkerGraph self.now result }
     {
         Graph {
             text: self.text,

@@ -13,7 +13,7 @@ rows_at row width work base (suc n) = rows_at row width work base n ++ (row work
 pub record EachRow (P : List ℕ → ℕ → Type 0) (width : ℕ) (work : List ℕ) (base n : ℕ) : Type 0 where
   pub row : (i : ℕ) → i < n → P work (base + width * i)
 
--- each word fits into the work area's 32 bits
+-- each word fits into the work area's 32 bits: asked of the words of a row, each time of others
 abbrev pub Small : List ℕ → Type 0
 Small [] = Unit {0}
 Small (v ∷ vs) = (v < 4294967296) × Small vs

@@ -11,7 +11,7 @@ pub fn word(work: &[u32], i: usize) -> usize
     work[i] as usize
 }
 
-// The number that a word stands for: the word less one, or none for 0.
+// The number that a word stands for: the word less one, or none for 0. In a row it is the word, since an Option is wider than a word.
 #[tactic(auto, using(crate::proofs::Words::number_told))]
 pub fn number_in(word: u32) -> Option<u32>
     ensures { result ≡ number_in word }
@@ -38,7 +38,7 @@ pub fn clear(work: &mut [u32])
     work.fill(0);
 }
 
-// Makes the `count` words from the word `at` on 0.
+// Makes the `count` words from the word `at` on 0. No slice of them: the contract says of the other words that they stay.
 pub fn clear_words(work: &mut [u32], at: usize, count: usize)
     requires { at + count ≤ length work.old }
     ensures { Cleared work.old work.new at count }

@@ -3,4 +3,4 @@ use Rattle.fold.proofs.Pairing.{Pairing}
 use Rattle.fold.proofs.pairs.count_new_pairs.Given as goal
 
 abbrev pub invariant-loop-k : goal.invariant-loop-k
-invariant-loop-k l = Pairing l.work l.a.n l.a.g l.a.m l.first l.end l.k l.nodes l.steps
+invariant-loop-k l = Pairing l.work l.a.n l.a.g l.a.m l.fn.among.first l.fn.among.end l.k l.nodes l.steps

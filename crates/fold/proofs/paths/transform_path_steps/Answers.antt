@@ -3,7 +3,7 @@ use Rattle.fold.proofs.Foldings.{same_none, turn_known, turn_room, turn_more}
 use Rattle.fold.proofs.paths.transform_path_steps.Goals as goal
 
 pub loop-i-init : goal.loop-i-init
-loop-i-init c = (same_none, running_start (c.args.paths.now.stage, c.requires.room) c.requires.first_le_end)
+loop-i-init c = (same_none, running_start (c.args.paths.now.stage, c.requires.room) (c.args.steps.ordered, c.requires.known.0, c.requires.known.1))
 
 pub turn_run-requires : goal.turn_run-requires
 turn_run-requires c =

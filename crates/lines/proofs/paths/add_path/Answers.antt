@@ -1,5 +1,6 @@
 -- `lines::paths::add_path` meets its contract. Assumes nothing.
 use Prim.Native.Nat.{◌+◌}
+use native.Mathlib.Omega.{arith}
 use Rattle.std.proofs.lemmas.Result.{err_from_is_err_and}
 use Rattle.tables.specs.declared.rows.PathWords.{PathWords}
 use Rattle.lines.proofs.Adding.{p_refused, p_added}
@@ -15,7 +16,7 @@ returns-in_err-count c =
 pub invariant_of-l : goal.invariant_of-l
 invariant_of-l c =
     let l = c.path_steps.new.l in
-    let row : PathWords = record { kind = c.args.kind; line = l.line; first = l.n.steps; end = l.n.steps + c.in_ok-count.count } in
+    let row : PathWords = record { kind = c.args.kind; line = l.line; steps = record { first = l.n.steps; end = l.n.steps + c.in_ok-count.count; ordered = omega arith } } in
     record { ready = ready_path l.ready row c.put_path.ensures }
 
 pub returns : goal.returns

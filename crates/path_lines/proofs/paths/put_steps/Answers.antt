@@ -2,8 +2,8 @@
 use Rattle.path_lines.proofs.StepFields.{none_put, steps_put}
 use Rattle.path_lines.proofs.paths.put_steps.Goals as goal
 
-pub returns-then-path : goal.returns-then-path
-returns-then-path c = search none_put
+pub returns-then-steps : goal.returns-then-steps
+returns-then-steps c = search none_put
 
-pub returns-else-path : goal.returns-else-path
-returns-else-path c = search steps_put
+pub returns-else-steps : goal.returns-else-steps
+returns-else-steps c = search steps_put

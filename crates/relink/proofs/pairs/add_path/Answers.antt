@@ -8,8 +8,8 @@ use Rattle.relink.proofs.pairs.add_path.Goals as goal
 pub loop-k-init : goal.loop-k-init
 loop-k-init c =
     let a = c.args.adder.now in
-    let e : c.args.first + 1 - 1 ≡ c.args.first = omega arith in
-    (same_none, rw e (pairing_start (a.relinkable, a.rows) c.requires))
+    let e : c.args.steps.first + 1 - 1 ≡ c.args.steps.first = omega arith in
+    (same_none, rw e (pairing_start (a.relinkable, a.rows) (c.args.steps.ordered, c.requires.0, c.requires.1)))
 
 pub loop-k-preserved : goal.loop-k-preserved
 loop-k-preserved c =

@@ -9,14 +9,14 @@ pub add_path-requires : goal.add_path-requires
 add_path-requires c =
     let s = c.loop-p.invariant.0 in
     let q = c.loop-p.invariant.1 in
-    let path = path_in c.graph.ensures c.new_path-path.ensures in
-    (path.low, path.high, rw s.area (passing_room q c.loop-p-test.true (rw s.area at path)))
+    let path = path_in c.graph.ensures c.new_path-steps.ensures in
+    (path.high, rw s.area (passing_room q c.loop-p-test.true (rw s.area at path)))
 
 pub loop-p-preserved : goal.loop-p-preserved
 loop-p-preserved c =
     let s = c.loop-p.invariant.0 in
     let q = c.add_path.ensures in
-    let path = rw s.area at (path_in c.graph.ensures c.new_path-path.ensures) in
+    let path = rw s.area at (path_in c.graph.ensures c.new_path-steps.ensures) in
     (same_then s q.same, passing_more c.loop-p.invariant.1 c.loop-p-test.true path (rw (s.text, s.area) at q.adds))
 
 pub returns : goal.returns

@@ -3,4 +3,4 @@ use Rattle.report.proofs.Repeating.{Repeating}
 use Rattle.report.proofs.totals.add_repeats.Given as goal
 
 abbrev pub invariant-loop-run : goal.invariant-loop-run
-invariant-loop-run l = Repeating l.graph.text.now l.graph.work.now l.graph.b l.first l.end l.initial.now l.now l.run-iterator
+invariant-loop-run l = Repeating l.graph.text.now l.graph.work.now l.graph.b l.fn.steps.first l.fn.steps.end l.initial.now l.now l.run-iterator

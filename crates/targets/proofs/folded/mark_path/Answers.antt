@@ -3,7 +3,7 @@ use Rattle.targets.proofs.FoldedMarks.{marking_start, marking_more, marking_end}
 use Rattle.targets.proofs.folded.mark_path.Goals as goal
 
 pub loop-i-init : goal.loop-i-init
-loop-i-init c = (same_none, marking_start (c.args.marks.now.markable, c.requires.0, c.requires.1))
+loop-i-init c = (same_none, marking_start (c.args.marks.now.markable, c.args.steps.ordered, c.requires))
 
 pub loop-i-preserved : goal.loop-i-preserved
 loop-i-preserved c =
