@@ -23,6 +23,7 @@ fn print_normalized(text: &[u8], out: &mut [u8], work: &mut [u32]) -> usize
     show(out, result.answer)
 }
 
+// As that of gfa_report: one for both would take what answers as a closure, and each is a program of its own.
 fn main() {
     let mut text = [0u8; 2049];
     let mut out = [0u8; 16384];
