@@ -1,6 +1,6 @@
 // Links for the adjacent pairs of the new paths that have none (document 01, "Folding", rule 6).
 ghost use Rattle.std.specs.Prelude.{◌≡◌, ◌+◌, ◌-◌, ◌≤◌, ◌<◌};
-ghost use Rattle.relink.specs.Relinking.{with_link, none_added};
+ghost use Rattle.relink.specs.Relinking.{with_link};
 ghost use Rattle.relink.specs.Adders.{AddsPair, AddsPath, AddsPaths};
 
 use crate::adder::Adder;
@@ -54,11 +54,11 @@ pub fn add_path(adder: &mut Adder, steps: Steps)
     }
 }
 
-// Adds the links of all new paths, where none is added yet.
+// Adds the links of all new paths, from none on.
 pub fn add_paths(adder: &mut Adder)
-    requires { adder.old.tally ≡ none_added }
     ensures { AddsPaths adder.old adder.new }
 {
+    adder.tally = Tally { added: 0, loops: 0 };
     for p in 0..adder.a.n.paths {
         let steps = adder.graph().new_path(PathNo(p as u32));
         add_path(adder, steps);

@@ -1,5 +1,5 @@
 // One pass over the links makes the rows of the node table.
-ghost use Rattle.std.specs.Prelude.{◌≡◌, ◌≤◌, ◌<◌, length};
+ghost use Rattle.std.specs.Prelude.{◌≤◌, ◌<◌, length};
 ghost use Rattle.scan.specs.Places.{Inside};
 ghost use Rattle.tally.specs.Tabled.{LinkReady};
 ghost use Rattle.tally.specs.Countings.{AddsNode, AddsLink, FindsNodes};
@@ -11,7 +11,7 @@ use runs::counts::is_self_link;
 use tables::entry::LinkNo;
 use tables::rows::LinkWords;
 
-// Puts the row of a new node behind the others, by its first self-link; it is not one of them yet.
+// Puts the row of a new node behind the others, by its first self-link; it is not counted among them yet.
 pub fn add_node(nodes: &mut Counting, l: LinkWords)
     requires { (length nodes.old.text.now ≤ 1048576) × (nodes.old.m < nodes.old.n.links) × Inside nodes.old.text.now l.from }
     ensures { AddsNode nodes.old l nodes.new }
@@ -49,11 +49,12 @@ pub fn add_link(nodes: &mut Counting, i: LinkNo)
     count_link(nodes.work, table, k, l);
 }
 
-// Finds the nodes with a self-link.
+// Finds the nodes with a self-link, from none on.
 pub fn find_nodes(nodes: &mut Counting)
-    requires { (length nodes.old.text.now ≤ 1048576) × (nodes.old.m ≡ 0) }
+    requires { length nodes.old.text.now ≤ 1048576 }
     ensures { FindsNodes nodes.old nodes.new }
 {
+    nodes.m = 0;
     for i in 0..nodes.n.links {
         add_link(nodes, LinkNo(i as u32));
     }

@@ -17,7 +17,8 @@ use tables::entry::PathNo;
 use tables::graph::Graph;
 use tables::path_steps::Steps;
 
-// Counts a run of `times` steps on a name, for the node that has it. It takes what it needs of a `Counting`, and asks nothing of the tables; `more`: the step behind the run is on the name too.
+// Counts a run of `times` steps on a name, for the node that has it; `more`: the step behind the run is on the name too. It takes what it needs of a
+// `Counting`, and asks nothing of the tables.
 pub fn count_run(
     text: &[u8],
     work: &mut [u32],

@@ -1,11 +1,7 @@
 -- `relink::settle::settle_links` meets its contract, by its two passes and the count of all self-links. Assumes nothing.
 use borrow.Author.Rules.{rules}
-use Rattle.relink.proofs.Adders.{adds_none}
 use Rattle.relink.proofs.Settled.{removed_given, fits_given, settled_given}
 use Rattle.relink.proofs.settle.settle_links.Goals as goal
-
-pub add_paths-requires : goal.add_paths-requires
-add_paths-requires c = adds_none _
 
 pub overflow_sub-result : goal.overflow_sub-result
 overflow_sub-result c = removed_given c.requires c.put_all_ends-removed.ensures.all c.add_paths.ensures.adds c.self_links-all.ensures (search rules) (search rules)

@@ -5,7 +5,7 @@ use Rattle.report.proofs.Ordering.{nodes_tabled, nodes_countable, orderable, ran
 use Rattle.report.proofs.totals.rank_nodes.Goals as goal
 
 pub find_nodes-requires : goal.find_nodes-requires
-find_nodes-requires c = (c.requires.short, refl)
+find_nodes-requires c = c.requires.short
 
 pub count_paths-requires : goal.count_paths-requires
 count_paths-requires c =

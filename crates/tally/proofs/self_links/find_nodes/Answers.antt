@@ -3,7 +3,7 @@ use Rattle.tally.proofs.Linking.{linking_start, linking_ready, linking_more, lin
 use Rattle.tally.proofs.self_links.find_nodes.Goals as goal
 
 pub loop-i-init : goal.loop-i-init
-loop-i-init c = (same_none, rw c.requires.1 (linking_start c.args.nodes.now.readable c.requires.0))
+loop-i-init c = (same_none, linking_start c.args.nodes.now.readable c.requires)
 
 pub add_link-requires : goal.add_link-requires
 add_link-requires c =
@@ -17,4 +17,6 @@ loop-i-preserved c =
     (same_then s e.same, linking_more c.loop-i.invariant.1 c.loop-i-test.true (rw (s.text, s.bases, s.counts) at e.adds))
 
 pub returns : goal.returns
-returns c = record { same = c.loop-i.invariant.0; finds = linking_end c.loop-i.invariant.1 c.loop-i-test.false }
+returns c =
+    let s = c.loop-i.invariant.0 in
+    record { same = record { text = s.text; loan = s.loan; bases = s.bases; counts = s.counts }; finds = linking_end c.loop-i.invariant.1 c.loop-i-test.false }
