@@ -1,11 +1,11 @@
 -- What is shown of a service's answer is what is to be printed. Assumes nothing.
-use Prim.Native.Nat.{ℕ, ◌+◌, ◌-◌, ◌≤◌, ◌<◌}
+use Prim.Native.Nat.{ℕ, ◌+◌, ◌-◌, ◌≤◌}
 use native.Mathlib.Omega.{arith}
+use mathlib.Core.Bool.{Bool, true, false}
 use mathlib.Core.List.{List, [], ◌∷◌, ◌++◌, append-nil}
 use mathlib.Core.Path.{◌≡◌, refl, sym, ap, ◌∙◌}
 use lib.ListN.{length, take, drop, length-take, length-append}
 use lib.Seq.{sets-eq, take_all, take-append_seam}
-use borrow.Author.Tests.{lt-ltb, le-ltb}
 use Rattle.gfa_spec.specs.Calls.{Refusal, plainly, Outcome, answer}
 use Rattle.gfa_spec.specs.Bytes.{bytes, end_line}
 use Rattle.gfa_spec.specs.Decimal.{decimal}
@@ -13,11 +13,11 @@ use Rattle.writers.specs.declared.writer.Writer.{Writer}
 use Rattle.writers.specs.Writers.{Wrote, Starts, Puts}
 use Rattle.writers.proofs.Writing.{keeps}
 use Rattle.reader.specs.declared.answers.Answer.{Answer}
-use Rattle.std.specs.Prelude.{Err}
+use Rattle.std.specs.Prelude.{Err, ltb}
 use Rattle.refusals.specs.declared.refusal.Refusal as refusal
 use Rattle.refusals.specs.Refusals.{stated}
 use Rattle.reader.specs.Served.{answer_of, answer_in, output_of}
-use Rattle.console.specs.Printed.{number_line, refusal_text, printed, limited, Prints, ShownIs}
+use Rattle.console.specs.Printed.{number_line, refusal_text, printed, limited, LongText, Prints, ShownIs}
 
 -- the lines of a refusal, written at the front of a buffer
 pub put_lines : {v w : Writer} {out out' : List ℕ} (a : Answer) → Starts out (length out) v
@@ -53,13 +53,22 @@ prints_answer out {mid} {out'} {a} {n} (answer bs) h e m s =
     let room : length bs ≤ length (bs ++ drop (length bs) out) = omega (arith, length-append bs (drop (length bs) out)) in
     record { bytes = rw (long, same, m, take-append_seam) (sym (take_all (length (bs ++ drop (length bs) out)) bs room)); inside = rw (long, same, m) room }
 
+-- the refusal of a text that is too long
+long_lines : {out out' : List ℕ} {n : ℕ} (r : Refusal) → r ≡ plainly 1
+    → Wrote (length out) out 0 (refusal_text (record { number = r.number; line = r.line; from = r.from; length = r.length })) out' n → LongText out out' n
+unfolding printed
+long_lines r e w = record { lines = rw e at w }
+
+pub refused_long : {out out' : List ℕ} {n : ℕ} {a : Answer} (q : refusal.Refusal) → stated q ≡ plainly 1 → a ≡ answer_in (Err q)
+    → Wrote (length out) out 0 (refusal_text a) out' n → LongText out out' n
+refused_long q e f w = long_lines (stated q) e (rw f at w)
+
 -- a text of more than 2,048 bytes
-pub prints_long : (text : List ℕ) {out out' : List ℕ} {n : ℕ} {a : Answer} (q : refusal.Refusal) (o : Outcome) → 2048 < length text → stated q ≡ plainly 1 → a ≡ answer_in (Err q)
-    → Wrote (length out) out 0 (refusal_text a) out' n → Prints out' n (limited text o)
-unfolding limited
-prints_long text q o l e f w = prints_refusal (stated q) (limited text o) (rw (lt-ltb 2048 (length text) l, e)) (rw f at w)
+pub prints_long : (text : List ℕ) {out out' : List ℕ} {n : ℕ} (o : Outcome) {r : Bool} → r ≡ ltb 2048 (length text) → r ≡ true → LongText out out' n → Prints out' n (limited text o)
+unfolding limited printed
+prints_long text o e f w = prints_refusal (plainly 1) (limited text o) (rw (← e, f)) w.lines
 
 -- and any other
-pub prints_limited : (text : List ℕ) {out' : List ℕ} {n : ℕ} (o : Outcome) → length text ≤ 2048 → Prints out' n o → Prints out' n (limited text o)
+pub prints_limited : (text : List ℕ) {out' : List ℕ} {n : ℕ} (o : Outcome) {r : Bool} → r ≡ ltb 2048 (length text) → r ≡ false → Prints out' n o → Prints out' n (limited text o)
 unfolding limited
-prints_limited text o l p = rw (le-ltb 2048 (length text) l) p
+prints_limited text o e f p = rw (← e, f) p

@@ -23,6 +23,10 @@ printed (answer bs) = bs
 unfoldable pub limited : List ℕ → Outcome → Outcome
 limited text o = cond (ltb 2048 (length text)) (Outcome.refusal (plainly 1)) o
 
+-- The lines of refusal 1 are written at the front of a buffer.
+pub record LongText (out out' : List ℕ) (n : ℕ) : Type 0 where
+  pub lines : Wrote (length out) out 0 (printed (Outcome.refusal (plainly 1))) out' n
+
 -- The first n bytes of the buffer are what is to be printed; it is cut where the buffer ends.
 pub record Prints (out' : List ℕ) (n : ℕ) (o : Outcome) : Type 0 where
   pub bytes : take n out' ≡ take (length out') (printed o)

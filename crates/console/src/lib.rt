@@ -1,11 +1,13 @@
 // What the two programs print (document 01, "The four services").
 #![tactic(auto)]
 
-ghost use Rattle.std.specs.Prelude.{◌≡◌, length};
+ghost use Rattle.std.specs.Prelude.{◌≡◌, length, ltb};
 ghost use Rattle.writers.specs.Writers.{Wrote};
-ghost use Rattle.console.specs.Printed.{refusal_text, ShownIs};
+ghost use Rattle.console.specs.Printed.{refusal_text, LongText, ShownIs};
 
 use reader::answers::Answer;
+use refusals::reason::Reason;
+use refusals::refusal::Refusal;
 use writers::pieces::put_number_lines;
 use writers::writer::Writer;
 
@@ -23,6 +25,20 @@ pub fn put_refusal(out: &mut [u8], a: Answer) -> usize
     let mut w = Writer::new(out, limit);
     put_number_lines(&mut w, &lines);
     w.at
+}
+
+// Is the text too long for a program?
+pub fn is_long(text: &[u8]) -> bool
+    ensures { result ≡ ltb 2048 (length text.now) }
+{
+    2048 < text.len()
+}
+
+// The lines of the refusal of a text that is too long, at the front of `out` as far as there is room.
+pub fn refuse_long(out: &mut [u8]) -> usize
+    ensures { LongText out.old out.new result }
+{
+    put_refusal(out, Answer::from(Err(Refusal::of(Reason::LongText))))
 }
 
 // How many bytes at the front of `out` are to be printed: the answer that stands there, or the lines of the refusal that are put there.

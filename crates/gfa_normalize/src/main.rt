@@ -6,18 +6,15 @@ ghost use Rattle.normalize_spec.specs.Services.{normalize};
 ghost use Rattle.normalize_answers.specs.Answered.{outcome_of};
 ghost use Rattle.console.specs.Printed.{limited, Prints};
 
-use console::{put_refusal, show};
+use console::{is_long, refuse_long, show};
 use normalize::services::normalize_self_loop_runs;
-use reader::answers::Answer;
-use refusals::reason::Reason;
-use refusals::refusal::Refusal;
 
 // Puts what is to be printed at the front of `out`, and answers how many bytes that is.
 fn print_normalized(text: &[u8], out: &mut [u8], work: &mut [u32]) -> usize
     ensures { Prints out.new result (limited text.now (outcome_of (normalize text.now 0 (length out.old) (length work.old)))) }
 {
-    if 2048 < text.len() {
-        return put_refusal(out, Answer::from(Err(Refusal::of(Reason::LongText))));
+    if is_long(text) {
+        return refuse_long(out);
     }
     let result = normalize_self_loop_runs(text, out, work);
     show(out, result.answer)

@@ -5,19 +5,15 @@ ghost use Rattle.std.specs.Prelude.{length};
 ghost use Rattle.report_spec.specs.Services.{report_text};
 ghost use Rattle.console.specs.Printed.{limited, Prints};
 
-use console::{put_refusal, show};
-use reader::answers::Answer;
-use refusals::reason::Reason;
-use refusals::refusal::Refusal;
+use console::{is_long, refuse_long, show};
 use report::services::diagnose_gfa;
 
 // Puts what is to be printed at the front of `out`, and answers how many bytes that is.
-#[tactic(auto, using(console::proofs::Printing::prints_long))]
 fn print_report(text: &[u8], out: &mut [u8], work: &mut [u32]) -> usize
     ensures { Prints out.new result (limited text.now (report_text text.now 10 (length out.old) (length work.old))) }
 {
-    if 2048 < text.len() {
-        return put_refusal(out, Answer::from(Err(Refusal::of(Reason::LongText))));
+    if is_long(text) {
+        return refuse_long(out);
     }
     let answer = diagnose_gfa(text, out, work);
     show(out, answer)

@@ -1,7 +1,10 @@
 -- `gfa_report::print_report` meets its contract: a text that is too long, or the service's answer. Assumes nothing.
-use Rattle.console.proofs.Printing.{prints_limited, prints_answer}
+use Rattle.console.proofs.Printing.{prints_long, prints_limited, prints_answer}
 use Rattle.gfa_report.proofs.Numbers.{numbered}
 use Rattle.gfa_report.proofs.print_report.Goals as goal
 
+pub returns-then-is_long : goal.returns-then-is_long
+returns-then-is_long c = prints_long _ _ c.is_long.ensures c.if-is_long.true c.refuse_long.ensures
+
 pub returns : goal.returns
-returns c = prints_limited _ _ c.if-text-gt2048.false (prints_answer _ _ (numbered _ _ _ _) c.diagnose_gfa-answer.ensures.answer c.diagnose_gfa-answer.ensures.output c.show.ensures)
+returns c = prints_limited _ _ c.is_long.ensures c.if-is_long.false (prints_answer _ _ (numbered _ _ _ _) c.diagnose_gfa-answer.ensures.answer c.diagnose_gfa-answer.ensures.output c.show.ensures)
