@@ -118,8 +118,6 @@ module _ {text work : List ℕ} {b : Bases} {n : Counts} {i : ℕ} {s : StepWord
       step_put z w =
           record { says = record { bytes = oriented complement (sign_of s.mark) (bytes_in text seq); spells = rw (t.step, known, sym g ∙ z, append-nil); puts = w } }
 
-pub ruleset one_spelled = (sequence_inside, step_put)
-
 -- ---- a loop over the steps: a piece is put, and all steps spell that piece and then the rest
 
 -- The state at step i: what the steps before it spell was put.

@@ -41,7 +41,7 @@ fn refused(reason: Reason, name: Place) -> Refusal
 }
 
 // Puts what step `i` of the table spells.
-#[tactic(auto, using(crate::proofs::Spelled::one_spelled))]
+#[tactic(auto, using(crate::proofs::Spelled::sequence_inside))]
 pub fn put_step(w: &mut Writer, graph: &Graph, i: usize) -> Result<(), Refusal>
     requires { i < graph.now.n.steps }
     ensures { SpeltIs graph.now.text.now w.old
