@@ -8,6 +8,7 @@ pub mod Parts
 pub mod Comparing
 pub mod Copies
 pub mod Decimal
+pub mod Sums
 pub mod Runs
 pub mod Splitting
 pub mod Lines

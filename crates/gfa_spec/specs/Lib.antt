@@ -2,6 +2,7 @@
 pub mod Options
 pub mod Bytes
 pub mod Decimal
+pub mod Sums
 pub mod Reading
 pub mod Records
 pub mod Sequences
