@@ -46,7 +46,7 @@ use Rattle.normalize_tables.specs.NewByNumber.{ends_no, EndsPut, ends_span}
 use Rattle.normalize_tables.specs.Rewritten.{NewRows}
 use Rattle.link_ends.specs.LinkEnds.{Relinkable, GoneIs, EndsIs, EndsRow, EndsSettled, AllEnds}
 use Rattle.link_ends.proofs.Places.{place_other, place_segment}
-use Rattle.normalize_tables.proofs.Words.{word_below}
+use Rattle.work.proofs.Words.{word_below}
 use Rattle.gfa_spec.proofs.Options.{None-ne-Some}
 use mir.Val.{bool_byte}
 

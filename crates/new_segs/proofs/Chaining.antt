@@ -16,7 +16,7 @@ use Rattle.normalize_tables.proofs.NewByNumber.{unit_kept, before_kept}
 use Rattle.std.specs.Prelude.{Option, None, Some}
 use Rattle.gfa_spec.proofs.Options.{None-ne-Some}
 use Rattle.work.specs.Rows.{word_of, number_in}
-use Rattle.normalize_tables.proofs.Words.{word_some, word_below}
+use Rattle.work.proofs.Words.{word_some, word_below}
 use Rattle.new_segs.specs.Chains.{LastOn, Chained, MadeIs}
 use Rattle.new_segs.specs.ChainsLeft.{ChainOf, OneGiven, NoneGiven}
 use Rattle.new_segs.specs.declared.chains.Chain.{Chain}

@@ -8,9 +8,9 @@ ghost use Rattle.normalize_tables.specs.News.{first_of};
 
 use normalize_tables::layout::Layout;
 use normalize_tables::news::News;
-use normalize_tables::rows::{NewSegmentWords, UnitRun, number_at};
+use normalize_tables::rows::{NewSegmentWords, UnitRun};
 use tables::entry::SegmentNo;
-use work::work::word_of;
+use work::work::{number_at, word_of};
 
 // The new segments on a unit that are left, from the last of them back: each by its number, with its row, which has the one before it on that unit.
 #[derive(Drop)]

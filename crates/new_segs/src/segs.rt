@@ -8,7 +8,8 @@ use new_ids::ids::free_suffix;
 use new_ids::rows::new_number;
 use normalize_tables::layout::Area;
 use normalize_tables::news::News;
-use normalize_tables::rows::{NewSegmentWords, UnitRun, number_at, put_new_segment};
+use normalize_tables::rows::{NewSegmentWords, UnitRun, put_new_segment};
+use work::work::number_at;
 
 // The suffix of the next new segment: 0 where its ID is a number, else the first that is free.
 #[tactic(auto, using(crate::proofs::NextIds::suffixing))]

@@ -1,10 +1,8 @@
--- The words for numbers that may be missing, and for tests. Assumes nothing.
-use Prim.Native.Nat.{ℕ, ◌+◌, ◌*◌, ◌≤◌, ◌<◌}
-use native.Mathlib.Omega.{arith}
+-- A new segment and the ends of a link, by their words. Assumes nothing.
+use Prim.Native.Nat.{ℕ, ◌+◌, ◌*◌}
 use mathlib.Core.List.{List}
-use mathlib.Core.Path.{◌≡◌, refl}
+use mathlib.Core.Path.{◌≡◌}
 use lib.ListN.{get_or}
-use Rattle.std.specs.Prelude.{Option, None, Some}
 use Rattle.gfa_spec.specs.Runs.{bit}
 use Rattle.gfa_spec.proofs.Counting.{bit_set}
 use Rattle.work.specs.Rows.{word_of}
@@ -14,17 +12,6 @@ use Rattle.normalize_tables.specs.declared.rows.Ends.{Ends}
 use Rattle.normalize_tables.specs.declared.rows.NewSegmentWords.{NewSegmentWords}
 use Rattle.normalize_tables.specs.News.{segment_words}
 use Rattle.normalize_tables.specs.NewByNumber.{ends_no}
-
--- the word of number k
-pub word_some : (o : Option ℕ) (k : ℕ) → o ≡ Some k → word_of o ≡ k + 1
-unfolding word_of
-word_some o k e = rw e (omega arith)
-
--- the word of a number below k
-pub word_below : (o : Option ℕ) (k : ℕ) → ((i : ℕ) → o ≡ Some i → i < k) → word_of o ≤ k
-unfolding word_of
-word_below None k h = omega arith
-word_below (Some i) k h = let l = h i refl in omega arith
 
 -- a new segment, by its words
 pub segment_told : (work : List ℕ) (g : Layout) (j : ℕ) (r : NewSegmentWords) → get_or work (g.segs + 4 * j) 0 ≡ r.unit.0 → get_or work (g.segs + 4 * j + 1) 0 ≡ r.count

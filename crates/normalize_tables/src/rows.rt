@@ -2,7 +2,7 @@
 // neither where a row is nor how wide it is, but for three tables of one word a row: the marks of segments, 1 where a segment is marked, the last new
 // segment on each, and the added links.
 ghost use Rattle.std.specs.Prelude.{◌≡◌, ◌+◌, ◌≤◌, ◌<◌, eqb, length, get_or};
-ghost use Rattle.work.specs.Rows.{number_in, word_of};
+ghost use Rattle.work.specs.Rows.{word_of};
 ghost use Rattle.normalize_tables.specs.News.{first_of};
 ghost use Rattle.normalize_tables.specs.NewByNumber.{NewSegmentThere, NewSegmentIs, NewStepThere, NewStepIs, NewPathThere, NewPathIs, ends_no, SegmentRoom, StepRoom, PathRoom, EndsRoom, NewSegmentPut, NewStepPut, NewPathPut, EndsPut};
 
@@ -11,7 +11,7 @@ use scan::orientation::Orientation;
 use tables::entry::{LinkNo, PathNo, SegmentNo};
 use tables::graph::orientation_at;
 use tables::path_steps::Steps;
-use work::work::{number_in, put_row, word, word_of};
+use work::work::{number_at, put_row, word, word_of};
 
 // A run on a segment: the segment, and how many equal steps the run has.
 #[derive(Clone, Copy)]
@@ -42,14 +42,6 @@ pub struct Ends {
     pub from: Option<usize>,
     pub to: Option<usize>,
     pub gone: bool,
-}
-
-// The number that the word at `at` stands for: the word less one, or none for 0.
-pub fn number_at(work: &[u32], at: usize) -> Option<usize>
-    requires { at < length work.now }
-    ensures { result ≡ number_in (get_or work.now at 0) }
-{
-    number_in(work[at]).map(|k| k as usize)
 }
 
 // Is the mark at the word `at` set?

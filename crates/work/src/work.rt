@@ -19,6 +19,14 @@ pub fn number_in(word: u32) -> Option<u32>
     word.checked_sub(1)
 }
 
+// The number that the word at `at` stands for.
+pub fn number_at(work: &[u32], at: usize) -> Option<usize>
+    requires { at < length work.now }
+    ensures { result ≡ number_in (get_or work.now at 0) }
+{
+    number_in(work[at]).map(|k| k as usize)
+}
+
 // The word for a number that may be missing: the number plus one, or 0 for none.
 #[tactic(auto, unfolding(crate::specs::Rows::word_of))]
 pub fn word_of(number: Option<usize>) -> usize
