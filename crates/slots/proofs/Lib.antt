@@ -1,0 +1,4 @@
+-- Laws of slots.
+pub mod Lasts
+pub mod Slotting
+pub mod Walking

@@ -1,0 +1,3 @@
+-- What the contracts of slots say.
+pub mod Slots
+pub mod RowsLeft
