@@ -1,4 +1,4 @@
--- Laws of new names: how long a number and the tail of a name are, what a buffer holds of them, and how names are compared. Assumes nothing.
+-- Laws of new names: how long a number and the tail of a name are, what a buffer holds of them, and how names are summed and compared. Assumes nothing.
 use Prim.Native.Nat.{ℕ, zero, suc, ◌+◌, ◌*◌, ◌/◌, ◌≤◌, ◌<◌}
 use native.Mathlib.Omega.{arith}
 use mathlib.Core.Bool.{Bool, true, false, ◌&&◌}
@@ -9,8 +9,10 @@ use lib.ListN.{length, take, drop, length-append, take-append-drop}
 use lib.Seq.{take_at, length-take-le}
 use Rattle.gfa_spec.specs.Bytes.{bytes, same}
 use Rattle.gfa_spec.specs.Decimal.{decimal}
+use Rattle.gfa_spec.specs.Sums.{sum_from, name_sum}
 use Rattle.gfa_spec.proofs.Comparing.{same_length}
 use Rattle.gfa_spec.proofs.Parts.{by_order}
+use Rattle.gfa_spec.proofs.Sums.{sum_append}
 use Rattle.gfa_spec.proofs.Tests.{by_test}
 use Rattle.normalize_spec.specs.Folding.{sanitized}
 use Rattle.normalize_spec.specs.NewNames.{suffix, new_name, name_tail}
@@ -84,9 +86,9 @@ unfolding name_tail
 tail_pieces count k = rw append_assoc
 
 -- What a writer put at the front of a buffer stands there before its place, where there is room for it.
-module _ (q : List ℕ) {before after : Writer} {out now : List ℕ} {room : ℕ} {r : Bool} (s : Starts out room before) (long : length out ≡ room) (is : after.out.now ≡ now) (h : r ≡ same (take after.at now) q) where
-  front_same : {p : List ℕ} → Puts before p after → length p ≤ room → r ≡ same p q
-  front_same {p} w k = h ∙ ap (λ (x : List ℕ). same x q) (rw is at front)
+module _ {before after : Writer} {out now : List ℕ} {room : ℕ} (s : Starts out room before) (long : length out ≡ room) (is : after.out.now ≡ now) where
+  front_is : {p : List ℕ} → Puts before p after → length p ≤ room → take after.at now ≡ p
+  front_is {p} w k = rw is at front
     where
       started : Wrote room out 0 p after.out.now after.at
       started = rw (s.bytes, s.front, s.limit) at w.wrote
@@ -95,12 +97,19 @@ module _ (q : List ℕ) {before after : Writer} {out now : List ℕ} {room : ℕ
       front = rw (written (omega arith) k started) (take_at p (drop (length p) out) after.at (omega (arith, started.place)))
 
   -- a number
-  pub same_number : {n : ℕ} → 20 ≤ room → n ≤ 18446744073709551615 → Puts before (decimal n) after → r ≡ same (decimal n) q
-  same_number k l w = front_same w (omega (arith, decimal_short _ l))
+  pub same_number : (q : List ℕ) {r : Bool} {n : ℕ} → r ≡ same (take after.at now) q → 20 ≤ room → n ≤ 18446744073709551615 → Puts before (decimal n) after → r ≡ same (decimal n) q
+  same_number q h k l w = h ∙ ap (λ x. same x q) (front_is w (omega (arith, decimal_short _ l)))
 
   -- what stands in a name behind the unit's
-  pub same_tail : {count k : ℕ} → 54 ≤ room → count ≤ 18446744073709551615 → k ≤ 18446744073709551615 → Puts before (name_tail count k) after → r ≡ same (name_tail count k) q
-  same_tail e l m w = front_same w (omega (arith, tail_short _ _ l m))
+  pub tail_is : {count k : ℕ} → 54 ≤ room → count ≤ 18446744073709551615 → k ≤ 18446744073709551615 → Puts before (name_tail count k) after → take after.at now ≡ name_tail count k
+  tail_is e l m w = front_is w (omega (arith, tail_short _ _ l m))
+
+-- ---- summed
+
+-- the sum of a name goes on from that of the unit's, sanitized
+pub name_summed : (unit : List ℕ) (count k : ℕ) {h r : ℕ} → h ≡ sum_from 5381 (sanitized unit) → r ≡ sum_from h (name_tail count k) → r ≡ name_sum (new_name unit count k)
+unfolding name_sum
+name_summed unit count k e f = f ∙ rw (e, name_parts) (sym (sum_append 5381 (sanitized unit) (name_tail count k)))
 
 -- ---- compared
 

@@ -1,12 +1,14 @@
-// The new IDs of rule 5, written and compared: a name of a unit, a run length and a suffix, or a number.
+// The new IDs of rule 5, written, summed and compared: a name of a unit, a run length and a suffix, or a number.
 ghost use Rattle.std.specs.Prelude.{◌≡◌};
 ghost use Rattle.gfa_spec.specs.Bytes.{same};
 ghost use Rattle.gfa_spec.specs.Decimal.{decimal};
+ghost use Rattle.gfa_spec.specs.Sums.{name_sum};
 ghost use Rattle.normalize_spec.specs.NewNames.{suffix as suffix_of, new_name, name_tail};
 ghost use Rattle.writers.specs.Writers.{Puts};
 
-use crate::sanitized::{is_sanitized, put_sanitized};
+use crate::sanitized::{is_sanitized, put_sanitized, sanitized_sum};
 use scan::names::same_bytes;
+use slots::sums::{START, sum_from};
 use writers::numbers::put_decimal;
 use writers::writer::Writer;
 
@@ -37,15 +39,31 @@ pub fn put_new_name(w: &mut Writer, unit: &[u8], count: usize, suffix: usize)
     put_tail(w, count, suffix);
 }
 
-// Is it what stands in a name behind the unit's? That has at most 54 bytes.
+// What stands in a name behind the unit's, written into a buffer. It has at most 54 bytes.
+fn tail_in(buffer: &mut [u8; 64], count: usize, suffix: usize) -> &[u8]
+    ensures { result.now ≡ name_tail count suffix }
+{
+    let mut w = Writer::new(&mut buffer[..], 64);
+    put_tail(&mut w, count, suffix);
+    let end = w.at;
+    &buffer[..end]
+}
+
+// Is it what stands in a name behind the unit's?
 fn is_tail(s: &[u8], count: usize, suffix: usize) -> bool
     ensures { result ≡ same (name_tail count suffix) s.now }
 {
-    let mut tail = [0u8; 64];
-    let mut w = Writer::new(&mut tail, 64);
-    put_tail(&mut w, count, suffix);
-    let end = w.at;
-    same_bytes(&tail[..end], s)
+    let mut buffer = [0u8; 64];
+    same_bytes(tail_in(&mut buffer, count, suffix), s)
+}
+
+// The sum of the name of a unit, a run length and a suffix (R-6).
+pub fn new_name_sum(unit: &[u8], count: usize, suffix: usize) -> u32
+    ensures { result ≡ name_sum (new_name unit.now count suffix) }
+{
+    let front = sanitized_sum(START, unit);
+    let mut buffer = [0u8; 64];
+    sum_from(front, tail_in(&mut buffer, count, suffix))
 }
 
 // Is the name that of the unit, a run length and a suffix? Such a name has at least 14 bytes more than the unit's.

@@ -1,9 +1,11 @@
-// Names with every byte that is not plain made `_`, written and compared in place.
+// Names with every byte that is not plain made `_`, written, summed and compared in place.
 ghost use Rattle.std.specs.Prelude.{◌≡◌, cond};
 ghost use Rattle.gfa_spec.specs.Bytes.{same};
+ghost use Rattle.gfa_spec.specs.Sums.{sum_from};
 ghost use Rattle.normalize_spec.specs.Folding.{is_plain, sanitized};
 ghost use Rattle.writers.specs.Writers.{Puts};
 
+use slots::sums::stepped;
 use writers::writer::Writer;
 
 // The byte itself, or `_`.
@@ -28,6 +30,17 @@ pub fn put_sanitized(w: &mut Writer, s: &[u8])
         out[at + i] = plain_byte(s[i]);
     }
     w.skip(s.len());
+}
+
+// The sum with all bytes of a name more, sanitized (R-6).
+pub fn sanitized_sum(h: u32, s: &[u8]) -> u32
+    ensures { result ≡ sum_from h (sanitized s.now) }
+{
+    let mut sum = h;
+    for b in s {
+        sum = stepped(sum, plain_byte(*b));
+    }
+    sum
 }
 
 // Are two names the same, sanitized? From their ends.

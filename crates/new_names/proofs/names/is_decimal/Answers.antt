@@ -4,4 +4,4 @@ use Rattle.new_names.proofs.Naming.{same_number}
 use Rattle.new_names.proofs.names.is_decimal.Goals as goal
 
 pub returns : goal.returns
-returns c = same_number _ c.new-w.ensures.starts refl (search rules) c.same_bytes.ensures (omega arith) (omega arith) c.put_decimal.ensures
+returns c = same_number c.new-w.ensures.starts refl (search rules) _ c.same_bytes.ensures (omega arith) (omega arith) c.put_decimal.ensures
