@@ -69,7 +69,6 @@ pub fn transform_path(paths: &mut Folding, p: PathNo)
 }
 
 // Transforms all paths: new segments, new steps and new paths are put into their tables.
-#[tactic(auto, using(crate::proofs::Transforming::cleared_readable))]
 pub fn transform(tables: &mut Normalizer) -> Made
     requires { AllKnown tables.old.text.now tables.old.work.now tables.old.b tables.old.n }
     ensures { Transforms tables.old result tables.new }

@@ -9,7 +9,7 @@ use Prim.Native.Nat.{ℕ, ◌+◌, ◌*◌, ◌-◌, ◌≤◌, ◌<◌}
 use native.Mathlib.Numerals.{add-one}
 use native.Mathlib.Omega.{arith}
 use mathlib.Core.List.{List, [], ◌∷◌}
-use mathlib.Core.Logic.{inr}
+use mathlib.Core.Logic.{inl, inr}
 use mathlib.Core.Path.{◌≡◌, refl, ap, sym, ◌∙◌}
 use lib.ListN.{length}
 use lib.Seq.{sets, length-sets}
@@ -31,7 +31,8 @@ use Rattle.lines.specs.SegmentLines.{SegmentHolds, SegmentFieldsAre}
 use Rattle.lines.specs.PathLines.{PathHolds, PathSays, PathStepsAre}
 use Rattle.lines.specs.LinkLines.{LinkHolds, LinkRefused, LinkFieldsAre}
 use Rattle.tables.specs.declared.rows.LinkWords.{LinkWords}
-use Rattle.tables.specs.ByNumber.{segment_words, link_words, FoundIs}
+use Rattle.tables.specs.ByNumber.{link_words, FoundIs}
+use Rattle.tables.specs.Names.{NamesSlotted, Insertable, Inserted}
 use Rattle.lines.specs.Sorts.{SortIs, read_as}
 use Rattle.tables.specs.Tables.{one_more}
 use Rattle.tables.specs.Segments.{segments_at, ids_of}
@@ -44,11 +45,13 @@ use Rattle.tables.specs.Paths.{kind_of, kind_in, kind_word, column_of, short_of,
 use Rattle.tables.specs.Entries.{words_of, entry_of}
 use Rattle.lines.specs.Lines.{segs_of, links_of, paths_of, NewRow, Ready, Entered, AddedIs, LineRead}
 use Rattle.scan.proofs.Fields.{field_bytes, found_at, few_fields}
-use Rattle.tables.proofs.Numbers.{found_known, found_new}
-use Rattle.work.proofs.Rows.{rows_length, KeptWords, only_none, only_put, only_then, only_wider, only_kept, kept_within, outside_less}
+use Rattle.tables.proofs.Numbers.{found_known, found_new, found_fresh}
+use Rattle.tables.proofs.NamesSlotted.{names_slotted_kept}
+use Rattle.work.specs.Rows.{Range, span, Only}
+use Rattle.work.proofs.Rows.{Apart, rows_length, KeptWords, only_none, only_put, only_then, only_wider, only_kept, kept_within, outside_less}
 use Rattle.lines.proofs.Room.{column_weight, column_short, spent_none, spent_segment, spent_link, spent_path, path_spare}
 use Rattle.steps.proofs.StepFields.{path_short, path_refused, path_accepted}
-use Rattle.tables.proofs.TableRows.{segment_kept, segment_row_kept, link_kept, link_row_kept, steps_kept, step_row_kept, path_kept, path_row_kept, segment_put, segment_row_put, link_put, link_row_put, path_put, path_row_put, record_put, three_words}
+use Rattle.tables.proofs.TableRows.{segment_kept, segment_row_kept, link_kept, link_row_kept, steps_kept, step_row_kept, path_kept, path_row_kept, link_put, link_row_put, path_put, path_row_put, record_put, three_words}
 
 -- ---- steps of a record
 
@@ -92,6 +95,7 @@ module _ {text work : List ℕ} {b : Bases} {n : Counts} {start size : ℕ} (y :
               row = row;
               visits = λ i l h. absurd (omega arith);
               spent = spent_none text start size n y.inside;
+              names = λ h. let z : n.segs + 0 ≡ n.segs = omega arith in rw z h;
               long = refl;
               only = only_none;
             };
@@ -124,6 +128,24 @@ module _ {text : List ℕ} {start size : ℕ} {r : Result SegmentWords Reason} (
   pub segment_id : {w : SegmentWords} → r ≡ Ok w → w.id.start + w.id.size ≤ length text
   segment_id e = (segment_holds e).id.inside
 
+-- there is room for a segment whose ID is new
+pub s_insertable : {text work : List ℕ} {b : Bases} {n : Counts} {start size : ℕ} {r : Result SegmentWords Reason} → SegmentFieldsAre text start size r → {w : SegmentWords} → r ≡ Ok w
+    → {f : Option SegmentNo} → FoundIs text work b n.segs w.id f → f ≡ None → Ready text work b n start size → NamesSlotted text work b n.segs → Insertable text work b n.segs w
+s_insertable h e k new y names =
+    let l = segment_holds h e in
+    record {
+      few = omega (arith, y.few);
+      line = omega (arith, y.inside, l.first, l.long);
+      id = l.id.inside;
+      sequence = l.sequence.inside;
+      short = y.short;
+      segs = y.between;
+      heads = y.heads;
+      room = omega (arith, y.beyond, y.behind, y.room);
+      names = names;
+      fresh = found_fresh k new;
+    }
+
 module _ {text work work' : List ℕ} {b : Bases} {n : Counts} {start size : ℕ} {r : Result SegmentWords Reason} (s : SortIs text start size sort.Segment)
     (h : SegmentFieldsAre text start size r) where
   -- too few fields
@@ -143,18 +165,16 @@ module _ {text work work' : List ℕ} {b : Bases} {n : Counts} {start size : ℕ
         record { says = record { read = s.is _ ∙ rw (le-ltb (length (fields (part_at text start size))) 3 l.columns.more, field_bytes l.id, found_known k at) } }
 
     -- a new one
-    pub s_added : {m : Counts} → f ≡ None → Ready text work b n start size → work' ≡ sets work (b.segs + 6 * n.segs) (segment_words w) →
+    pub s_added : {m : Counts} → f ≡ None → Ready text work b n start size → Inserted text work work' b n.segs w →
         m ≡ one_more n 1 0 0 0 → AddedIs text work work' b n start size (Ok (Segment (record { 0 = n.segs }), m))
     unfolding read_as parse_s part_at entry_of
     s_added new y q more =
         let l = segment_holds h e in
-        let at = b.segs + 6 * n.segs in
-        let row = segment_words w in
-        let fits : at + 6 ≤ length work = omega (arith, y.between, y.beyond, y.behind, y.room) in
+        let at = b.segs + 7 * n.segs in
         let long-enough = column_weight {k = 1} l.columns (λ z. omega (arith, s.letter)) in
         record {
           says =
-              rw (q, more)
+              rw more
               (record {
                 read =
                     s.is _
@@ -163,7 +183,7 @@ module _ {text work work' : List ℕ} {b : Bases} {n : Counts} {start size : ℕ
                       field_bytes l.id,
                       found_new k new,
                       field_bytes l.sequence,
-                      segment_put text work at w.line.start w.line.size w.id.start w.id.size w.sequence.start w.sequence.size fits,
+                      q.segment,
                       l.first,
                       l.long,
                     );
@@ -171,20 +191,23 @@ module _ {text work work' : List ℕ} {b : Bases} {n : Counts} {start size : ℕ
                 segs = refl;
                 links = refl;
                 paths = refl;
-                steps = omega (arith, no_steps text (sets work at row) b (Segment (record { 0 = n.segs })) refl);
-                row = (
-                  refl,
-                  segment_row_put text work at w.line.start w.line.size w.id.start w.id.size w.sequence.start w.sequence.size fits
-                      (omega (arith, y.inside, l.first, l.long)) l.id.inside l.sequence.inside,
-                );
+                steps = omega (arith, no_steps text work' b (Segment (record { 0 = n.segs })) refl);
+                row = (refl, q.row);
                 visits = λ i l h. absurd (omega arith);
                 spent = spent_segment text start size n y.inside (omega arith) s.letter;
-                long = length-sets work at row;
-                only = only_wider _ (only_put row work at) (λ i o. (outside_less at (at + 6) o.1.0 (omega arith) (omega arith), tt));
+                names = λ h. q.names;
+                long = q.long;
+                only = only_wider _ q.only (λ i o. (outside_less at (at + 7) o.1.0 (omega arith) (omega arith), (o.1.1.1.1.1.0, tt)));
               });
         }
 
 -- ---- L lines
+
+-- the segments stay in their slots where words apart from their rows and from the slots' change
+names_apart : {text work work' : List ℕ} {b : Bases} {n : Counts} {start size : ℕ} {rs : List Range} → Ready text work b n start size → Only rs work work'
+    → Apart b.segs (b.segs + 7 * n.segs) rs → Apart b.heads b.links rs → length work' ≡ length work → NamesSlotted text work b n.segs → NamesSlotted text work' b n.segs
+names_apart {text} {b = b} {n = n} y only rows heads long =
+    names_slotted_kept text b n.segs y.heads long (only_kept b.segs (b.segs + 7 * n.segs) only rows) (only_kept b.heads b.links only heads)
 
 -- what the answer says, by its cases
 module _ {text : List ℕ} {start size : ℕ} {r : Result LinkWords Reason} (h : LinkFieldsAre text start size r) where
@@ -235,6 +258,7 @@ module _ {text work work' : List ℕ} {b : Bases} {n : Counts} {start size : ℕ
               );
               visits = λ i l h. absurd (omega arith);
               spent = spent_link text start size n y.inside (omega arith) s.letter;
+              names = λ h. let z : n.segs + 0 ≡ n.segs = omega arith in rw z (names_apart y (only_put row work at) (inl (omega (arith, y.between, y.heads)), tt) (inl (omega arith), tt) (length-sets work at row) h);
               long = length-sets work at row;
               only = only_wider _ (only_put row work at) (λ i o. (outside_less at (at + 8) o.1.1.0 (omega arith) (omega arith), tt));
             });
@@ -344,6 +368,10 @@ module _ {text work middle : List ℕ} {b : Bases} {n : Counts} {start size : �
                     let place : base + 3 * (i - n.steps) ≡ b.steps + 3 * i = omega (arith, l) in
                     step_row_kept high text (b.steps + 3 * i) (omega arith) (omega (arith, k)) (rw place at (p.rows.row (i - n.steps) (omega (arith, l, k))));
                 spent = spent_path text start size n y.inside (kind_in kind) m p.few s.letter;
+                names = λ h.
+                    let z : n.segs + 0 ≡ n.segs = omega arith in
+                    let o = only_then (span at (at + 5) ∷ span base (base + 3 * m) ∷ []) p.only only (λ i o. ((o.1.0, tt), (o.0, tt))) in
+                    rw z (names_apart y o (inl (omega (arith, y.between, y.heads, y.beyond)), (inl (omega (arith, y.between, y.heads, y.beyond, y.behind)), tt)) (inl (omega (arith, y.beyond)), (inl (omega (arith, y.beyond, y.behind)), tt)) (length-sets middle at row ∙ same) h);
                 long = length-sets middle at row ∙ same;
                 only =
                     only_then _ p.only only
@@ -359,11 +387,11 @@ module _ {text work middle : List ℕ} {b : Bases} {n : Counts} {start size : �
 -- what a new record says is kept where the words behind the line table are
 module _ {middle work' : List ℕ} (text : List ℕ) (b : Bases) (n m : Counts) (high : KeptWords b.segs (length middle) middle work') where
   entry_kept : (r : Record) →
-      (b.segs + 6 * n.segs + 6 ≤ b.links) × (b.links + 8 * n.links + 8 ≤ b.paths) × (b.paths + 5 * n.paths + 5 ≤ b.steps) × (b.steps + 3 * m.steps ≤ length middle) →
+      (b.segs + 7 * n.segs + 7 ≤ b.heads) × (b.heads < b.links) × (b.links + 8 * n.links + 8 ≤ b.paths) × (b.paths + 5 * n.paths + 5 ≤ b.steps) × (b.steps + 3 * m.steps ≤ length middle) →
       NewRow text middle b n m r → (entry_of text work' b r ≡ entry_of text middle b r) × NewRow text work' b n m r
   unfolding entry_of
   entry_kept (Segment k) o r =
-      let at = b.segs + 6 * k.0 in
+      let at = b.segs + 7 * k.0 in
       (ap segment (segment_kept high text at (omega arith) (omega (arith, r.0))), (r.0, segment_row_kept high text at (omega arith) (omega (arith, r.0)) r.1))
   entry_kept (Link k) o r =
       let at = b.links + 8 * k.0 in
@@ -378,6 +406,16 @@ module _ {middle work' : List ℕ} (text : List ℕ) (b : Bases) (n m : Counts) 
   entry_kept (Comment l) o r = (refl, r)
   entry_kept (Blank l) o r = (refl, r)
   entry_kept (Other l) o r = (refl, r)
+
+-- a record has one segment at most
+segs_few : (r : Record) → segs_of r ≤ 1
+segs_few (Segment k) = omega arith
+segs_few (Link k) = omega arith
+segs_few (Path k) = omega arith
+segs_few (Header l) = omega arith
+segs_few (Comment l) = omega arith
+segs_few (Blank l) = omega arith
+segs_few (Other l) = omega arith
 
 -- what is said of a line, by the cases
 module _ {text work middle : List ℕ} {b : Bases} {n : Counts} {start size : ℕ} {a : Result (Record × Counts) Reason} (y : Ready text work b n start size) (h : AddedIs text work middle b n start size a) where
@@ -408,7 +446,7 @@ module _ {text work middle : List ℕ} {b : Bases} {n : Counts} {start size : �
       let paths = e.paths in
       let put = rw (three_words r) at (only_put (words_of r) middle at) in
       let high = only_kept b.segs (length middle) put (inr (omega (arith, y.apart)), tt) in
-      let kept = entry_kept text b n m high r (y.between, y.beyond, y.behind, room) e.row in
+      let kept = entry_kept text b n m high r (y.between, y.heads, y.beyond, y.behind, room) e.row in
       rw q
       (record {
         says =
@@ -420,8 +458,12 @@ module _ {text work middle : List ℕ} {b : Bases} {n : Counts} {start size : �
               paths = e.paths;
               steps = e.steps ∙ ap (λ x. n.steps + step_count (x ∷ [])) (sym kept.0);
               row = kept.1;
-              visits = λ i l k. step_row_kept high text (b.steps + 3 * i) (omega (arith, y.between, y.beyond, y.behind)) (omega (arith, k, room)) (e.visits i l k);
+              visits = λ i l k. step_row_kept high text (b.steps + 3 * i) (omega (arith, y.between, y.heads, y.beyond, y.behind)) (omega (arith, k, room)) (e.visits i l k);
               spent = e.spent;
+              names = λ h.
+                  names_slotted_kept text b m.segs y.heads (length-sets middle at (words_of r))
+                  (kept_within b.segs (b.segs + 7 * m.segs) high (omega arith) (omega (arith, y.between, y.heads, y.beyond, y.behind, segs_few r, room)))
+                  (kept_within b.heads b.links high (omega (arith, y.between)) (omega (arith, y.beyond, y.behind, room))) (e.names h);
               long = length-sets middle at (words_of r) ∙ e.long;
               only =
                   only_then _ e.only put
@@ -430,5 +472,5 @@ module _ {text work middle : List ℕ} {b : Bases} {n : Counts} {start size : �
                     (outside_less at (at + 3) o.0 (omega arith) (omega (arith, next)), tt),
                   ));
             };
-        held = record_put r middle at (omega (arith, y.apart, y.between, y.beyond, y.behind, room, low));
+        held = record_put r middle at (omega (arith, y.apart, y.between, y.heads, y.beyond, y.behind, room, low));
       })

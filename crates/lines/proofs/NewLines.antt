@@ -9,7 +9,8 @@ use Rattle.tables.specs.declared.rows.PathWords.{PathWords}
 use Rattle.tables.specs.declared.tables.Bases.{Bases}
 use Rattle.tables.specs.declared.tables.Counts.{Counts}
 use Rattle.lines.specs.declared.new_line.NewLine.{NewLine}
-use Rattle.tables.specs.ByNumber.{segment_words, link_words, path_words}
+use Rattle.tables.specs.ByNumber.{link_words, path_words}
+use Rattle.tables.specs.Names.{Inserted}
 use Rattle.tables.specs.Entries.{words_of}
 use Rattle.lines.specs.PathLines.{PathStepsAre, PathSays}
 use Prim.Native.Nat.{ℕ, ◌+◌, ◌*◌, ◌≤◌}
@@ -33,7 +34,7 @@ same_then s t = record { text = t.text ∙ s.text; loan = t.loan ∙ s.loan; bas
 
 module _ {text work work' : List ℕ} {b : Bases} {n : Counts} {start size : ℕ} (y : Ready text work b n start size) where
   -- what changed is apart from the rows of the segments
-  ready_kept : {rs : List Range} → Only rs work work' → Apart b.segs (b.segs + 6 * n.segs) rs → length work' ≡ length work → Ready text work' b n start size
+  ready_kept : {rs : List Range} → Only rs work work' → Apart b.segs (b.segs + 7 * n.segs) rs → length work' ≡ length work → Ready text work' b n start size
   ready_kept only apart long =
       record {
         inside = y.inside;
@@ -41,23 +42,24 @@ module _ {text work work' : List ℕ} {b : Bases} {n : Counts} {start size : ℕ
         few = y.few;
         apart = y.apart;
         between = y.between;
+        heads = y.heads;
         beyond = y.beyond;
         behind = y.behind;
         room = omega (arith, y.room, long);
-        rows = segment_rows_kept (only_kept b.segs (b.segs + 6 * n.segs) only apart) text b.segs n.segs (omega arith) (omega arith) y.rows;
+        rows = segment_rows_kept (only_kept b.segs (b.segs + 7 * n.segs) only apart) text b.segs n.segs (omega arith) (omega arith) y.rows;
       }
 
-  ready_put : (at : ℕ) (vs : List ℕ) → work' ≡ sets work at vs → (b.segs + 6 * n.segs ≤ at) ⊎ (at + length vs ≤ b.segs) → Ready text work' b n start size
+  ready_put : (at : ℕ) (vs : List ℕ) → work' ≡ sets work at vs → (b.segs + 7 * n.segs ≤ at) ⊎ (at + length vs ≤ b.segs) → Ready text work' b n start size
   ready_put at vs q apart = ready_kept {rs = span at (at + length vs) ∷ []} (rw q (only_put vs work at)) (apart, tt) (rw q (length-sets work at vs))
 
-  pub ready_segment : (w : SegmentWords) → work' ≡ sets work (b.segs + 6 * n.segs) (segment_words w) → Ready text work' b n start size
-  ready_segment w q = ready_put (b.segs + 6 * n.segs) (segment_words w) q (inl (omega arith))
+  pub ready_segment : {w : SegmentWords} → Inserted text work work' b n.segs w → Ready text work' b n start size
+  ready_segment q = ready_kept q.only (inl (omega arith), (inl (omega (arith, y.between)), tt)) q.long
 
   pub ready_link : (w : LinkWords) → work' ≡ sets work (b.links + 8 * n.links) (link_words w) → Ready text work' b n start size
-  ready_link w q = ready_put (b.links + 8 * n.links) (link_words w) q (inl (omega (arith, y.between)))
+  ready_link w q = ready_put (b.links + 8 * n.links) (link_words w) q (inl (omega (arith, y.between, y.heads)))
 
   pub ready_path : (w : PathWords) → work' ≡ sets work (b.paths + 5 * n.paths) (path_words w) → Ready text work' b n start size
-  ready_path w q = ready_put (b.paths + 5 * n.paths) (path_words w) q (inl (omega (arith, y.between, y.beyond)))
+  ready_path w q = ready_put (b.paths + 5 * n.paths) (path_words w) q (inl (omega (arith, y.between, y.heads, y.beyond)))
 
   pub ready_entry : (r : Record) → work' ≡ sets work (b.lines + 3 * n.lines) (words_of r) → Ready text work' b n start size
   ready_entry r q = ready_put (b.lines + 3 * n.lines) (words_of r) q (inr (rw (three_words r) (omega (arith, y.apart))))
@@ -66,8 +68,8 @@ module _ {text work work' : List ℕ} {b : Bases} {n : Counts} {start size : ℕ
   pub ready_steps : {kind : PathKind} {c : Result ℕ Reason} → PathStepsAre text work work' b n start size kind c → Ready text work' b n start size
   ready_steps {kind} {c} h = go c h.says
     where
-      before : b.segs + 6 * n.segs ≤ b.steps + 3 * n.steps
-      before = omega (arith, y.between, y.beyond, y.behind)
+      before : b.segs + 7 * n.segs ≤ b.steps + 3 * n.steps
+      before = omega (arith, y.between, y.heads, y.beyond, y.behind)
 
       go : (c : Result ℕ Reason) → PathSays text work work' b n start size kind c → Ready text work' b n start size
       go (Ok m) p = ready_kept p.only (inl before, tt) p.long

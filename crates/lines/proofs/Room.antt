@@ -56,14 +56,14 @@ weight_text text = omega (arith, weight_lines (drop_final (split 10 0 text)), we
 -- ---- the tables of a text
 
 -- the rows of a line fit into its bytes
-line_fits : (s : List ℕ) → 3 + 6 * segs_in s + 8 * links_in s + 5 * paths_in s ≤ 4 * suc (length s)
+line_fits : (s : List ℕ) → 3 + 8 * segs_in s + 8 * links_in s + 5 * paths_in s ≤ 4 * suc (length s)
 unfolding segs_in links_in paths_in starting
 line_fits [] = omega arith
 line_fits (x ∷ []) = omega arith
 line_fits (x ∷ (y ∷ ys)) = go (ℕ_discrete x 83) (ℕ_discrete x 76) (ℕ_discrete x 80) (ℕ_discrete x 87)
   where
     go : Dec (x ≡ 83) → Dec (x ≡ 76) → Dec (x ≡ 80) → Dec (x ≡ 87) →
-        3 + 6 * cond (eqb x 83) 1 0 + 8 * cond (eqb x 76) 1 0 + 5 * (cond (eqb x 80) 1 0 + cond (eqb x 87) 1 0) ≤ 4 * suc (suc (suc (length ys)))
+        3 + 8 * cond (eqb x 83) 1 0 + 8 * cond (eqb x 76) 1 0 + 5 * (cond (eqb x 80) 1 0 + cond (eqb x 87) 1 0) ≤ 4 * suc (suc (suc (length ys)))
     go (yes e) l p w = rw e (omega arith)
     go (no s) (yes e) p w = rw e (omega arith)
     go (no s) (no l) (yes e) w = rw e (omega arith)
@@ -71,13 +71,13 @@ line_fits (x ∷ (y ∷ ys)) = go (ℕ_discrete x 83) (ℕ_discrete x 76) (ℕ_d
     go (no s) (no l) (no p) (no w) = rw (ne_eqb x 83 s, ne_eqb x 76 l, ne_eqb x 80 p, ne_eqb x 87 w) (omega arith)
 
 -- the rows of some lines, with what the lines leave, are four words for each byte and each line feed
-pub lines_sum : (ls : List Part) → 3 * length ls + 6 * total segs_in ls + 8 * total links_in ls + 5 * total paths_in ls + total spare_in ls ≡ 4 * weight ls
+pub lines_sum : (ls : List Part) → 3 * length ls + 8 * total segs_in ls + 8 * total links_in ls + 5 * total paths_in ls + total spare_in ls ≡ 4 * weight ls
 unfolding weight sum bytes_of total spare_in
 lines_sum [] = refl
 lines_sum (l ∷ ls) = omega (arith, line_fits l.bytes, lines_sum ls)
 
--- the tables of a text, with what its lines leave, fit into four words for each byte and 26 more
-pub tables_fit : (text : List ℕ) → (bases_of (lines text)).steps + total spare_in (lines text) ≤ 4 * length text + 26
+-- the tables of a text, with what its lines leave, fit into four words for each byte and 28 more
+pub tables_fit : (text : List ℕ) → (bases_of (lines text)).steps + total spare_in (lines text) ≤ 4 * length text + 28
 tables_fit text = omega (arith, lines_sum (lines text), weight_text text)
 
 -- ---- a line

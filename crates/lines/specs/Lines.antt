@@ -13,6 +13,7 @@ use Rattle.scan.specs.Places.{part_at}
 use Rattle.work.specs.Rows.{EachRow, Only}
 use Rattle.tables.specs.Tables.{Few, share, rows_of}
 use Rattle.tables.specs.Segments.{segments_at, ids_of, SegmentRow}
+use Rattle.tables.specs.Names.{NamesSlotted}
 use Rattle.tables.specs.Links.{LinkRow}
 use Rattle.tables.specs.Steps.{StepRow}
 use Rattle.tables.specs.Paths.{PathRow}
@@ -25,11 +26,12 @@ pub record Ready (text work : List ℕ) (b : Bases) (n : Counts) (start size : �
   pub short : length text ≤ 1048576
   pub few : Few n
   pub apart : b.lines + 3 * n.lines + 3 ≤ b.segs
-  pub between : b.segs + 6 * n.segs + 6 ≤ b.links
+  pub between : b.segs + 7 * n.segs + 7 ≤ b.heads
+  pub heads : b.heads < b.links
   pub beyond : b.links + 8 * n.links + 8 ≤ b.paths
   pub behind : b.paths + 5 * n.paths + 5 ≤ b.steps
   pub room : b.steps + 3 * n.steps + spare_in (part start size text) ≤ length work
-  pub rows : EachRow (SegmentRow text) 6 work b.segs n.segs
+  pub rows : EachRow (SegmentRow text) 7 work b.segs n.segs
 
 -- how many rows of each table a record has
 abbrev pub segs_of : Record → ℕ
@@ -45,7 +47,7 @@ paths_of r = by_record (λ k. 0) (λ k. 0) (λ k. 1) (λ l. 0) r
 abbrev pub NewRow : List ℕ → List ℕ → Bases → Counts → Counts → Record → Type 0
 NewRow text work b n m r =
     by_record
-    (λ k. (k ≡ n.segs) × SegmentRow text work (b.segs + 6 * k))
+    (λ k. (k ≡ n.segs) × SegmentRow text work (b.segs + 7 * k))
     (λ k. (k ≡ n.links) × LinkRow text work (b.links + 8 * k))
     (λ k. (k ≡ n.paths) × PathRow text m.steps work (b.paths + 5 * k))
     (λ l. l.start + l.length ≤ length text)
@@ -69,6 +71,8 @@ pub record Entered (text work work' : List ℕ) (b : Bases) (n : Counts) (start 
   pub row : NewRow text work' b n m r
   pub visits : (i : ℕ) → n.steps ≤ i → i < m.steps → StepRow text work' (b.steps + 3 * i)
   pub spent : Spent (part start size text) n m
+  -- segments that were found by their IDs are found, and a new one is
+  pub names : NamesSlotted text work b n.segs → NamesSlotted text work' b m.segs
   pub long : length work' ≡ length work
   pub only : Only (rows_of b n m) work work'
 

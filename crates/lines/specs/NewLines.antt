@@ -6,6 +6,7 @@ use Rattle.tables.specs.declared.kinds.PathKind.{PathKind}
 use Rattle.tables.specs.declared.tables.Counts.{Counts}
 use Rattle.lines.specs.declared.new_line.NewLine.{NewLine}
 use Rattle.lines.specs.declared.sort.Sort.{Sort}
+use Rattle.tables.specs.Names.{NamesSlotted}
 use Rattle.lines.specs.Lines.{AddedIs, LineRead}
 use Rattle.lines.specs.PathLines.{PathStepsAre}
 use Rattle.lines.specs.Sorts.{SortIs}
@@ -13,6 +14,11 @@ use Rattle.lines.specs.Sorts.{SortIs}
 -- The line is of this sort: each function asks another.
 abbrev pub IsOf : NewLine → Sort → Type 0
 IsOf l k = SortIs l.text.now l.line.start l.line.size k
+
+-- The segments of the lines before it are found by their IDs: asked where one is sought. When its own is put into its slot, the line's counts do not have it
+-- yet, so that the line cannot hold this.
+abbrev pub Findable : NewLine → Type 0
+Findable l = NamesSlotted l.text.now l.work.now l.b l.n.segs
 
 -- The line, and the tables that it is read into, are the same.
 pub record SameLine (old new : NewLine) : Type 0 where

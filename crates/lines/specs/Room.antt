@@ -23,7 +23,7 @@ paths_in line = starting 80 line + starting 87 line
 
 -- what a line, with its line feed, leaves of its four words a byte: for its steps, and for later tables
 unfoldable pub spare_in : List ℕ → ℕ
-spare_in line = 4 * suc (length line) - (3 + 6 * segs_in line + 8 * links_in line + 5 * paths_in line)
+spare_in line = 4 * suc (length line) - (3 + 8 * segs_in line + 8 * links_in line + 5 * paths_in line)
 
 -- a number of each line, summed
 unfoldable pub total : (List ℕ → ℕ) → List Part → ℕ

@@ -21,9 +21,11 @@ pub struct NewLine<'a> {
 }
 
 impl<'a> NewLine<'a> {
+    ghost use Rattle.lines.specs.NewLines.{Findable};
+
     // The segment of the lines before it that has the name. `Graph::named` looks into tables that may be read whole: these may not yet.
     pub fn named(&self, name: Place) -> Option<SegmentNo>
-        requires { Inside self.now.text.now name }
+        requires { Inside self.now.text.now name × Findable self.now }
         ensures { FoundIs self.now.text.now self.now.work.now self.now.b self.now.n.segs name result }
     {
         find_segment(self.text, self.work, self.b, self.n.segs, name)

@@ -89,7 +89,7 @@ pub fn put_node(work: &mut [u32], table: usize, k: usize, w: NodeWords)
     put_counter(work, table, k, none);
 }
 
-// The number of the node, of `count`, that has the name: as `find_segment`, of another table's rows.
+// The number of the node, of `count`, that has the name: row after row.
 #[tactic(auto, using(crate::proofs::Finding::finding))]
 pub fn find_row(text: &[u8], work: &[u32], table: usize, count: usize, name: Place) -> Option<usize>
     requires { NamesInside text.now work.now table count × Inside text.now name }

@@ -30,7 +30,7 @@ module _ {text w w' : List ℕ} {b : Bases} {n : Counts} {g : Layout} (s : Sourc
       record {
         apart = rw t.of_segments s.apart;
         visits = unfold over_rows in rw t.of_paths (unfold over_rows in s.visits);
-        readable = record { laid = rw e s.readable.laid; few = s.readable.few; sound = t.sound };
+        readable = record { laid = rw e s.readable.laid; few = s.readable.few; sound = t.sound e };
         placed = rw e s.placed;
       }
 

@@ -12,6 +12,8 @@ use Rattle.tables.specs.declared.tables.Counts.{Counts}
 use Rattle.gfa_spec.specs.Reading.{parse}
 use Rattle.gfa_spec.specs.Calls as calls
 use Rattle.gfa_spec.specs.Calls.{plainly, of_parsed, of_bytes, input}
+use Rattle.tables.specs.Names.{NamesCleared}
+use Rattle.work.proofs.Rows.{only_then}
 use Rattle.reader.specs.Outcomes.{OutcomeIs}
 use Rattle.reader.specs.Inputs.{BadIs, Admits, AdmissionIs, TextSays, TextIs, InputSays, InputIs}
 
@@ -43,9 +45,33 @@ module _ {text : List ℕ} {words : ℕ} {r : Result (Unit {0}) Refusal} (h : Ad
 
 -- ---- the lines
 
-module _ {text before work : List ℕ} {b : Bases} {a : Result Counts Refusal} (y : OutcomeIs text before work b a) where
+-- read behind slots that were emptied
+module _ {text before middle work : List ℕ} {b : Bases} {a : Result Counts Refusal} (c : NamesCleared before middle b) (y : OutcomeIs text middle work b a) where
   pub text_refused : {q : Refusal} → a ≡ Err q → TextIs text before work (Err q)
   text_refused e = record { says = rw e at y.says }
+
+  pub text_taken : {n : Counts} → a ≡ Ok n → TextIs text before work (Ok (b, n))
+  text_taken e =
+      let r = rw e at y.says in
+      let t = r.tables in
+      record {
+        says =
+            record {
+              read = r.read;
+              tables =
+                  record {
+                    of_segments = t.of_segments;
+                    of_links = t.of_links;
+                    of_paths = t.of_paths;
+                    visits = t.visits;
+                    laid = t.laid;
+                    few = t.few;
+                    sound = t.sound;
+                    long = t.long ∙ c.long;
+                    only = only_then _ c.only t.only (λ i o. ((o.1.1.1.1.1.0, tt), o));
+                  };
+            };
+      }
 
 -- ---- both
 

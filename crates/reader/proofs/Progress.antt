@@ -80,7 +80,7 @@ module _ {A : Type 0} {row : List ℕ → ℕ → A} {P : List ℕ → ℕ → T
       rw z (each_more h p)
 
 module _ (text w : List ℕ) (b : Bases) (n m : Counts) where
-  segs_brought : (r : Record) → NewRow text w b n m r → Brings (segment_at text) (SegmentRow text) w (b.segs + 6 * n.segs) (segs_of r) (segments (entry_of text w b r ∷ []))
+  segs_brought : (r : Record) → NewRow text w b n m r → Brings (segment_at text) (SegmentRow text) w (b.segs + 7 * n.segs) (segs_of r) (segments (entry_of text w b r ∷ []))
   unfolding entry_of segments collect choose one nil
   segs_brought (Segment k) h = rw (← h.0) (that h.1)
   segs_brought (Link k) h = nothing
@@ -140,7 +140,7 @@ module _ {text work work' : List ℕ} {b : Bases} {n m : Counts} {start size : �
       let paths = paths_brought text work' b n m r new in
       record {
         entries = rw z.lines (rows_snoc (entry_at text b) 3 work' b.lines n.lines ∙ rw (entries_kept text b n t s, held));
-        of_segments = brought 6 b.segs n.segs m.segs segs z.segs ∙ rw (segments_kept t.segs text b.segs n.segs (omega arith) (omega arith));
+        of_segments = brought 7 b.segs n.segs m.segs segs z.segs ∙ rw (segments_kept t.segs text b.segs n.segs (omega arith) (omega arith));
         of_links = brought 8 b.links n.links m.links links z.links ∙ rw (links_kept t.links text b.links n.links (omega arith) (omega arith));
         of_paths = brought 5 b.paths n.paths m.paths paths z.paths ∙ rw (paths_kept text b.steps b.paths n.paths n.steps t.paths t.steps s.paths);
         sound =
@@ -157,12 +157,13 @@ module _ {text work work' : List ℕ} {b : Bases} {n m : Counts} {start size : �
                         };
                   })
                   (record { fits = rw held (new_fits text work' b n m r (z.segs, z.links, z.paths) new) }));
-              segs = brought_each 6 b.segs n.segs m.segs segs z.segs (segment_rows_kept t.segs text b.segs n.segs (omega arith) (omega arith) s.segs);
+              segs = brought_each 7 b.segs n.segs m.segs segs z.segs (segment_rows_kept t.segs text b.segs n.segs (omega arith) (omega arith) s.segs);
               links = brought_each 8 b.links n.links m.links links z.links (link_rows_kept t.links text b.links n.links (omega arith) (omega arith) s.links);
               paths =
                   brought_each 5 b.paths n.paths m.paths paths z.paths
                   (record { row = λ i h. path_row_kept t.paths text (b.paths + 5 * i) (omega arith) (omega arith) (omega (arith, z.steps)) (s.paths.row i h) });
               steps = record { row = λ i h. step_row i h (dec_lt i n.steps) };
+              names = z.names s.names;
             };
       }
     where
@@ -208,7 +209,7 @@ module _ {text first : List ℕ} {b : Bases} where
         of_links = refl;
         of_paths = refl;
         visits = refl;
-        sound = record { lines = each_none; segs = each_none; links = each_none; paths = each_none; steps = each_none };
+        sound = record { lines = each_none; segs = each_none; links = each_none; paths = each_none; steps = each_none; names = h.names };
         long = refl;
         only = only_none;
       }
@@ -224,7 +225,7 @@ module _ {text first : List ℕ} {b : Bases} where
     progress_laid : Laid b n (length work)
     progress_laid =
         let y = p.roomy in
-        omega (arith, y.apart, y.between, y.beyond, y.behind, y.room, p.left_lines, p.left_segs, p.left_links, p.left_paths, p.left_spare, p.long)
+        omega (arith, y.apart, y.between, y.heads, y.beyond, y.behind, y.room, p.left_lines, p.left_segs, p.left_links, p.left_paths, p.left_spare, p.long)
 
     pub progress_end : {t : Lines} → LineGiven s None t → OutcomeIs text first work b (Ok n)
     unfolding parse_lines
@@ -264,6 +265,7 @@ module _ {text first : List ℕ} {b : Bases} where
             few = progress_few;
             apart = omega (arith, y.apart, a);
             between = omega (arith, y.between, p.left_segs);
+            heads = y.heads;
             beyond = omega (arith, y.beyond, p.left_links);
             behind = omega (arith, y.behind, p.left_paths);
             room = omega (arith, y.room, c, p.long);
@@ -294,7 +296,7 @@ module _ {text first : List ℕ} {b : Bases} where
             let left_paths : m.paths + total paths_in (lines_left t) ≤ total paths_in (lines text) = omega (arith, z.spent.paths, rw first_left at p.left_paths) in
             let kept =
             rows_behind b n m
-            (omega (arith, y.apart, left_lines), omega (arith, y.between), omega (arith, y.beyond), omega (arith, y.behind))
+            (omega (arith, y.apart, left_lines), omega (arith, y.between), y.heads, omega (arith, y.beyond), omega (arith, y.behind))
             (omega (arith, lines'), omega (arith, segs'), omega (arith, links'), omega (arith, paths')) z.only
             in
             let g = grown z (rw e at r.held) kept p.sound in
@@ -323,12 +325,12 @@ module _ {text first : List ℕ} {b : Bases} where
                     (
                       outside_less (b.lines + 3 * 0) (b.lines + 3 * n.lines) o.0 (omega arith) (omega arith),
                       (
-                        outside_less (b.segs + 6 * 0) (b.segs + 6 * n.segs) o.1.0 (omega arith) (omega arith),
+                        outside_less (b.segs + 7 * 0) (b.segs + 7 * n.segs) o.1.0 (omega arith) (omega arith),
                         (
                           outside_less (b.links + 8 * 0) (b.links + 8 * n.links) o.1.1.0 (omega arith) (omega arith),
                           (
                             outside_less (b.paths + 5 * 0) (b.paths + 5 * n.paths) o.1.1.1.0 (omega arith) (omega arith),
-                            (outside_less (b.steps + 3 * 0) (b.steps + 3 * n.steps) o.1.1.1.1.0 (omega arith) (omega arith), tt),
+                            (outside_less (b.steps + 3 * 0) (b.steps + 3 * n.steps) o.1.1.1.1.0 (omega arith) (omega arith), (o.1.1.1.1.1.0, tt)),
                           ),
                         ),
                       ),
@@ -336,12 +338,12 @@ module _ {text first : List ℕ} {b : Bases} where
                     (
                       outside_less (b.lines + 3 * n.lines) (b.lines + 3 * m.lines) o.0 (omega arith) (omega arith),
                       (
-                        outside_less (b.segs + 6 * n.segs) (b.segs + 6 * m.segs) o.1.0 (omega arith) (omega arith),
+                        outside_less (b.segs + 7 * n.segs) (b.segs + 7 * m.segs) o.1.0 (omega arith) (omega arith),
                         (
                           outside_less (b.links + 8 * n.links) (b.links + 8 * m.links) o.1.1.0 (omega arith) (omega arith),
                           (
                             outside_less (b.paths + 5 * n.paths) (b.paths + 5 * m.paths) o.1.1.1.0 (omega arith) (omega arith),
-                            (outside_less (b.steps + 3 * n.steps) (b.steps + 3 * m.steps) o.1.1.1.1.0 (omega arith) (omega arith), tt),
+                            (outside_less (b.steps + 3 * n.steps) (b.steps + 3 * m.steps) o.1.1.1.1.0 (omega arith) (omega arith), (o.1.1.1.1.1.0, tt)),
                           ),
                         ),
                       ),

@@ -18,6 +18,7 @@ use Rattle.scan.specs.TextLines.{lines_left, LineGiven}
 use Rattle.reader.specs.Outcomes.{Roomy}
 use Rattle.lines.specs.Room.{starting, segs_in, links_in, paths_in, total, TallyIs, LineTally}
 use Rattle.gfa_spec.specs.Bytes.{part}
+use Rattle.tables.specs.Names.{NamesCleared}
 use Rattle.tables.specs.Tables.{Few, no_rows, one_more, bases_for}
 use Rattle.gfa_spec.proofs.Parts.{length_part}
 use Rattle.lines.proofs.Room.{lines_sum, weight_text, two_bytes, tables_fit}
@@ -128,5 +129,20 @@ module _ (text : List ℕ) {t : Counts} (e : TallyIs (reading.lines text) t) (h 
   tally_few = omega (arith, lines_sum (reading.lines text), weight_text text, e.lines, e.segs, e.links, e.paths)
 
   -- they fit into four words for each byte and 28 more
-  pub tally_roomy : {work : List ℕ} {b : Bases} → b ≡ bases_for t → 4 * length text + 28 ≤ length work → Roomy text work b
-  tally_roomy q r = rw q (omega (arith, tables_fit text, e.lines, e.segs, e.links, e.paths))
+  module _ (before : List ℕ) {b : Bases} (q : b ≡ bases_for t) (r : 4 * length text + 28 ≤ length before) where
+    pub tally_clearable : (b.segs + 6 ≤ b.heads) × (b.heads < b.links) × (b.links ≤ length before)
+    tally_clearable = rw q (omega (arith, tables_fit text, e.lines, e.segs, e.links, e.paths))
+
+    pub tally_roomy : {work : List ℕ} → NamesCleared before work b → Roomy text work b
+    tally_roomy c =
+        let f = tables_fit text in
+        record {
+          short = h;
+          apart = rw q (omega (arith, e.lines));
+          between = rw q (omega (arith, e.segs));
+          heads = tally_clearable.1;
+          beyond = rw q (omega (arith, e.links));
+          behind = rw q (omega (arith, e.paths));
+          room = rw q (omega (arith, f, e.lines, e.segs, e.links, e.paths, c.long));
+          names = c.names text;
+        }

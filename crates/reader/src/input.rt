@@ -6,6 +6,7 @@ use crate::counting::count_text;
 use crate::reading::read_lines;
 use refusals::reason::Reason;
 use refusals::refusal::Refusal;
+use tables::segments::clear_names;
 use tables::tables::{Bases, Counts, bases_of};
 
 // The first byte that no text has, as its refusal: one of 128 or more, or a carriage return that is not followed at once by a line feed.
@@ -51,6 +52,7 @@ pub fn read_text(text: &[u8], work: &mut [u32]) -> Result<(Bases, Counts), Refus
     ensures { TextIs text.now work.old work.new result }
 {
     let b = bases_of(count_text(text));
+    clear_names(work, b);
     let n = read_lines(text, work, b)?;
     Ok((b, n))
 }

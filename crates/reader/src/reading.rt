@@ -1,5 +1,5 @@
 // The reading pass: every line of a text, put into the tables.
-ghost use Rattle.lines.specs.NewLines.{AddsRecord, ReadsLine};
+ghost use Rattle.lines.specs.NewLines.{Findable, AddsRecord, ReadsLine};
 ghost use Rattle.reader.specs.Outcomes.{Roomy, OutcomeIs};
 
 use lines::links::add_link;
@@ -16,6 +16,7 @@ use tables::tables::{Bases, Counts, one_more};
 
 // Adds a line: its record, and how many rows there are with it.
 pub fn add_record(l: &mut NewLine) -> Result<(Record, Counts), Reason>
+    requires { Findable l.old }
     ensures { AddsRecord l.old result l.new }
 {
     let raw = RawLine {
@@ -36,6 +37,7 @@ pub fn add_record(l: &mut NewLine) -> Result<(Record, Counts), Reason>
 
 // Reads a line: its record, and its entry.
 pub fn read_line(l: &mut NewLine) -> Result<(Record, Counts), Reason>
+    requires { Findable l.old }
     ensures { ReadsLine l.old result l.new }
 {
     let (record, m) = add_record(l)?;

@@ -12,7 +12,7 @@ use tables::graph::Graph;
 use work::work::clear;
 
 // The answer: refusals 1 to 17, then 22. The work area holds the tables.
-#[tactic(auto, using(reader::proofs::Serving::input_readable, crate::proofs::Serving::ranked_input))]
+#[tactic(auto, using(reader::proofs::Serving::input_readable))]
 fn answer_report(
     text: &[u8],
     top: usize,

@@ -4,25 +4,34 @@ use native.Mathlib.Omega.{arith}
 use mathlib.Core.List.{List, [], ◌∷◌, append_assoc}
 use mathlib.Core.Path.{◌≡◌}
 use lib.ListN.{get_or}
-use Rattle.gfa_spec.specs.Bytes.{bytes, nth, join_with, tabbed, end_line}
+use Rattle.gfa_spec.specs.Bytes.{bytes, nth, repeat, join_with, tabbed, end_line}
 use Rattle.normalize_spec.specs.Writing.{segment_line, link_line}
 use Rattle.work.specs.Rows.{EachRow}
 use Rattle.writers.specs.declared.writer.Writer.{Writer}
 use Rattle.writers.specs.Writers.{Puts}
 use Rattle.writers.proofs.Writing.{as_piece, ◌▷◌}
 use Rattle.scan.specs.Orientations.{sign_of}
+use Rattle.scan.specs.Places.{bytes_in}
+use Rattle.tables.specs.declared.rows.SegmentWords.{SegmentWords}
+use Rattle.tables.specs.ByNumber.{SegmentIs}
 use Rattle.tables.specs.declared.tables.Bases.{Bases}
 use Rattle.tables.specs.declared.tables.Counts.{Counts}
 use Rattle.normalize_tables.specs.declared.layout.Layout.{Layout}
 use Rattle.normalize_tables.specs.declared.layout.Made.{Made}
 use Rattle.normalize_tables.specs.declared.rows.NewStepWords.{NewStepWords}
 use Rattle.normalize_tables.specs.News.{new_at, KeyRow}
-use Rattle.normalize_tables.specs.NewByNumber.{new_step_no, NewStepIs}
+use Rattle.normalize_tables.specs.declared.rows.NewSegmentWords.{NewSegmentWords}
+use Rattle.normalize_tables.specs.NewByNumber.{NewSegmentIs, new_step_no, NewStepIs}
 use Rattle.rewrite.specs.Pieces.{new_piece, step_end, pair_line, added_piece}
 
 -- ---- new segments
 
 module _ (text work : List ℕ) (b : Bases) (g : Layout) (first j : ℕ) {before after : Writer} where
+  -- the sequence, behind a tab: that of the unit, repeated
+  pub sequence_put : {n : Counts} {r : NewSegmentWords} {u : SegmentWords} {unit : List ℕ} {x : Writer} → NewSegmentIs text work b n g first j r → SegmentIs text work b r.unit.0 u
+      → unit ≡ bytes_in text u.sequence → Puts before (9 ∷ []) x → Puts x (repeat r.count unit) after → Puts before (9 ∷ (new_at text b g first work j).sequence) after
+  sequence_put w s e tab rest = rw (w.new, s.segment, ← e) (tab ▷ rest)
+
   -- the line: S (83), a tab, the ID, a tab, the sequence, a line feed (10)
   pub new_put : {x y z : Writer} → Puts before (83 ∷ 9 ∷ []) x → Puts x (new_at text b g first work j).id y → Puts y (9 ∷ (new_at text b g first work j).sequence) z
       → Puts z (10 ∷ []) after → Puts before (new_piece text work b g first j) after

@@ -40,11 +40,11 @@ module _ {text work : List ℕ} {b : Bases} {n : Counts} (t : Readable text work
   line_is i h e = record { entry = rw e; fits = rw e (t.sound.lines.row i h).fits }
 
   module _ {line id sequence : Place} (i : ℕ) (h : i < n.segs) where
-    pub segment_is : line ≡ place_at work (b.segs + 6 * i) → id ≡ place_at work (b.segs + 6 * i + 2) → sequence ≡ place_at work (b.segs + 6 * i + 4)
+    pub segment_is : line ≡ place_at work (b.segs + 7 * i) → id ≡ place_at work (b.segs + 7 * i + 2) → sequence ≡ place_at work (b.segs + 7 * i + 4)
         → SegmentIs text work b i (record { line = line; id = id; sequence = sequence })
     unfolding segment_at
     segment_is el ei es =
-        let at = b.segs + 6 * i in
+        let at = b.segs + 7 * i in
         let q = t.sound.segs.row i h in
         rw (el, ei, es, next at 2, next at 4) (record { segment = refl; line = q.line; id = q.id; sequence = q.sequence })
 
@@ -116,7 +116,7 @@ module _ (text work : List ℕ) (b : Bases) where
   -- there are as many as the number says
   pub segments_length : (i : ℕ) → length (segments_to text work b i) ≡ i
   unfolding segments_at
-  segments_length i = rows_length (segment_at text) 6 work b.segs i
+  segments_length i = rows_length (segment_at text) 7 work b.segs i
 
   pub links_length : (i : ℕ) → length (links_to text work b i) ≡ i
   unfolding links_at
@@ -133,7 +133,7 @@ module _ (text work : List ℕ) (b : Bases) where
   -- a row by its number
   pub segments_nth : (k i : ℕ) (d : Segment) → i < k → nth i (segments_to text work b k) d ≡ segment_no text work b i
   unfolding segments_at
-  segments_nth k i d h = rows_nth (segment_at text) 6 work b.segs k i d h
+  segments_nth k i d h = rows_nth (segment_at text) 7 work b.segs k i d h
 
   pub paths_nth : (k p : ℕ) (d : Path) → p < k → nth p (paths_to text work b k) d ≡ path_no text work b p
   unfolding paths_at
@@ -170,15 +170,15 @@ module _ (text work : List ℕ) (b : Bases) where
     -- the segments from segment 0 on are all; those from i on are i and the next; behind the last there is none; so with links and paths
     pub segments_all : segments_of text work b n ≡ segments_from text work b n 0
     unfolding segments_at
-    segments_all = rows_all (segment_at text) 6 work b.segs n.segs
+    segments_all = rows_all (segment_at text) 7 work b.segs n.segs
 
     pub segments_next : (i : ℕ) → i < n.segs → segments_from text work b n i ≡ segment_no text work b i ∷ segments_from text work b n (i + 1)
     unfolding segments_at
-    segments_next i h = rows_cons (segment_at text) 6 work b.segs n.segs i h
+    segments_next i h = rows_cons (segment_at text) 7 work b.segs n.segs i h
 
     pub segments_none : (i : ℕ) → n.segs ≤ i → segments_from text work b n i ≡ []
     unfolding segments_at
-    segments_none i h = rows_none (segment_at text) 6 work b.segs n.segs i h
+    segments_none i h = rows_none (segment_at text) 7 work b.segs n.segs i h
 
     pub links_all : links_to text work b n.links ≡ links_from text work b n 0
     unfolding links_at
@@ -219,10 +219,10 @@ TablesKept b n w w' = KeptWords b.lines (tables_end b n) w w'
 
 module _ {text w w' : List ℕ} {b : Bases} {n : Counts} (t : Readable text w b n) (k : TablesKept b n w w') where
   pub readable_stands : length w' ≡ length w → Readable text w' b n
-  readable_stands e = record { laid = rw e t.laid; few = t.few; sound = (tables_stand t.laid t.sound k).sound }
+  readable_stands e = record { laid = rw e t.laid; few = t.few; sound = (tables_stand t.laid t.sound k).sound e }
 
   pub segment_stands : (i : ℕ) → i < n.segs → segment_no text w' b i ≡ segment_no text w b i
-  segment_stands i h = let l = t.laid in segment_kept k text (b.segs + 6 * i) (omega arith) (omega arith)
+  segment_stands i h = let l = t.laid in segment_kept k text (b.segs + 7 * i) (omega arith) (omega arith)
 
   pub link_stands : (i : ℕ) → i < n.links → link_no text w' b i ≡ link_no text w b i
   link_stands i h = let l = t.laid in link_kept k text (b.links + 8 * i) (omega arith) (omega arith)

@@ -1,7 +1,6 @@
 -- The number of a segment, and the search for it. Assumes nothing.
-use Prim.Native.Nat.{ℕ, zero, suc, ◌+◌, ◌*◌, ◌-◌, ◌≤◌, ◌<◌}
-use native.Mathlib.Nat.{zero-add, suc-add}
-use native.Mathlib.Numerals.{add-one}
+use Prim.Native.Nat.{ℕ, zero, suc, ◌<◌}
+use native.Mathlib.Decide.{ℕ_discrete}
 use native.Mathlib.Omega.{arith}
 use mathlib.Core.Bool.{Bool, true, false, cond}
 use mathlib.Core.List.{List, [], ◌∷◌, ◌++◌}
@@ -16,9 +15,13 @@ use Rattle.gfa_spec.specs.Reading.{Segment}
 use Rattle.gfa_spec.specs.Records.{sequence_of, segment_number}
 use Rattle.scan.specs.Places.{bytes_in}
 use Rattle.work.specs.Rows.{rows_at}
-use Rattle.tables.specs.Segments.{segment_at, segments_at, ids_of, segment_found}
-use Rattle.tables.specs.ByNumber.{place_at, segment_no, segments_to, FoundIs}
-use Rattle.gfa_spec.proofs.Tests.{cond_ap, by_test, same_sym}
+use Rattle.tables.specs.Segments.{segments_at, ids_of, segment_found}
+use Rattle.tables.specs.ByNumber.{segment_no, segments_to, FoundIs}
+use Rattle.tables.specs.Names.{id_no}
+use Rattle.slots.specs.Slots.{Last}
+use Rattle.slots.proofs.Lasts.{last_of_none, last_top, last_fewer}
+use Rattle.gfa_spec.proofs.Options.{None-ne-Some}
+use Rattle.gfa_spec.proofs.Tests.{cond_ap, by_test, same_sym, same_equal, equal_same, clash}
 use Rattle.work.proofs.Rows.{rows_snoc, rows_length}
 
 -- ---- the number
@@ -32,6 +35,16 @@ either (Some k) o = Some k
 is_there : Option ℕ → Bool
 is_there None = false
 is_there (Some k) = true
+
+either_none : (o : Option ℕ) → either o None ≡ o
+unfolding either
+either_none None = refl
+either_none (Some k) = refl
+
+either_both : (o p : Option ℕ) → either o p ≡ None → (o ≡ None) × (p ≡ None)
+unfolding either
+either_both None p e = (refl, e)
+either_both (Some k) p e = absurd (None-ne-Some k (sym e))
 
 map_either : (o p : Option ℕ) → option_map suc (either o p) ≡ either (option_map suc o) (option_map suc p)
 unfolding either
@@ -63,6 +76,14 @@ number_there (s ∷ ss) name =
     (λ e. rw e)
     (λ e. rw e (number_there ss name ∙ sym (map_there (segment_number ss name)))))
 
+pub some_there : (ss : List Segment) (name : List ℕ) {k : ℕ} → segment_number ss name ≡ Some k → any (same name) (ids_of ss) ≡ true
+unfolding is_there
+some_there ss name e = number_there ss name ∙ rw e
+
+pub none_there : (ss : List Segment) (name : List ℕ) → segment_number ss name ≡ None → any (same name) (ids_of ss) ≡ false
+unfolding is_there
+none_there ss name e = number_there ss name ∙ rw e
+
 -- the sequence of a name is that of the segment of its number
 pub number_sequence : (ss : List Segment) (name : List ℕ) (d : Segment) → sequence_of ss name ≡ option_map (λ k. (nth k ss d).sequence) (segment_number ss name)
 unfolding sequence_of segment_number nth
@@ -88,50 +109,35 @@ some_sequence ss name k d e = number_sequence ss name d ∙ rw e
 
 module _ (text work : List ℕ) (b : Bases) (name : List ℕ) where
   -- the first n segments and one more
-  more : (n : ℕ) → segment_number (segments_to text work b (suc n)) name ≡
+  number_more : (n : ℕ) → segment_number (segments_to text work b (suc n)) name ≡
       either (segment_number (segments_to text work b n) name) (cond (same (segment_no text work b n).id name) (Some n) None)
   unfolding segments_at
-  more n = rw (rows_snoc, number_snoc, rows_length)
+  number_more n = rw (rows_snoc, number_snoc, rows_length)
 
-  -- a segment that was found is found in a longer table
-  still : (k n d : ℕ) → segment_number (segments_to text work b n) name ≡ Some k → segment_number (segments_to text work b (d + n)) name ≡ Some k
+  -- the last segment so named is the segment so named, where no two have one ID
+  pub last_number : (n : ℕ) (r : Option ℕ) → ((i k : ℕ) → i < k → k < n → id_no text work b i ≡ id_no text work b k → ⊥) → Last (λ k. id_no text work b k ≡ name) n r
+      → segment_number (segments_to text work b n) name ≡ r
+  unfolding segment_number segments_at rows_at either
+  last_number zero r d l = sym (last_of_none l)
+  last_number (suc n) r d l =
+      number_more n
+      ∙ by_test (same (id_no text work b n) name)
+      (λ e.
+      let p = same_equal (id_no text work b n) name e in
+      rw (e, last_top l p, last_number n None (λ i k a h q. d i k a (omega arith) q) (record { on = λ k z. absurd (None-ne-Some k z); later = λ i a h q. d i n h (omega arith) (q ∙ sym p) })))
+      (λ e. rw (e, last_number n r (λ i k a h q. d i k a (omega arith) q) (last_fewer l (λ p. clash (equal_same (id_no text work b n) name p) e))) (either_none r))
+
+  -- where none is so named, no segment has that ID
+  number_none : (n : ℕ) → segment_number (segments_to text work b n) name ≡ None → (k : ℕ) → k < n → id_no text work b k ≡ name → ⊥
   unfolding either
-  still k n zero e = rw zero-add e
-  still k n (suc d) e = rw suc-add (more (d + n) ∙ rw (still k n d e))
-
--- None of the first i segments has the name.
-pub record Unnamed (text work : List ℕ) (b : Bases) (name : Place) (i : ℕ) : Type 0 where
-  pub none_yet : segment_number (segments_to text work b i) (bytes_in text name) ≡ None
-
-module _ {text work : List ℕ} {b : Bases} {name : Place} where
-  pub unnamed_start : Unnamed text work b name 0
-  unfolding segment_number segments_at rows_at
-  unnamed_start = record { none_yet = refl }
-
-  module _ {i : ℕ} {id : Place} {r : Bool} (s : Unnamed text work b name i) (q : id ≡ place_at work (b.segs + 6 * i + 2)) (e : r ≡ same (bytes_in text id) (bytes_in text name)) where
-    same_id : bytes_in text id ≡ (segment_no text work b i).id
-    unfolding segment_at
-    same_id =
-        let at : b.segs + 6 * i + 2 + 1 ≡ b.segs + 6 * i + 3 = omega arith in
-        rw (q, at)
-
-    here : segment_number (segments_to text work b (suc i)) (bytes_in text name) ≡ cond r (Some i) None
-    unfolding either
-    here = more text work b (bytes_in text name) i ∙ rw (s.none_yet, ← same_id, e)
-
-    pub found_hit : {count : ℕ} → i < count → r ≡ true → FoundIs text work b count name (Some (record { 0 = i }))
-    found_hit {count} h t =
-        let long : count ≡ count - suc i + suc i = omega arith in
-        record { answer = rw (long, still text work b (bytes_in text name) i (suc i) (count - suc i) (here ∙ rw t)); below = h }
-
-    pub unnamed_more : r ≡ false → Unnamed text work b name (i + 1)
-    unnamed_more t = record { none_yet = rw add-one (here ∙ rw t) }
-
-  pub found_none : {count i : ℕ} → i ≤ count → count ≤ i → Unnamed text work b name i → FoundIs text work b count name None
-  found_none {count} {i} l h s = let e : count ≡ i = omega arith in record { answer = rw (e, s.none_yet); below = tt }
-
--- what the search for a segment goes on by
-pub ruleset finding = (unnamed_start, found_hit, unnamed_more, found_none)
+  number_none zero e k h q = absurd (omega arith)
+  number_none (suc n) e k h q =
+      let z = either_both (segment_number (segments_to text work b n) name) (cond (same (id_no text work b n) name) (Some n) None) (sym (number_more n) ∙ e) in
+      go (ℕ_discrete k n) z.1 (λ l. number_none n z.0 k l q)
+    where
+      go : Dec (k ≡ n) → cond (same (id_no text work b n) name) (Some n) None ≡ None → (k < n → ⊥) → ⊥
+      go (yes d) g f = None-ne-Some n (sym g ∙ rw (equal_same (id_no text work b n) name (rw d at q)))
+      go (no d) g f = f (omega arith)
 
 -- ---- what was found
 
@@ -152,9 +158,11 @@ found_nothing (Some j) e = cc
 -- what the answer says of the IDs
 module _ {text work : List ℕ} {b : Bases} {count : ℕ} {name : Place} {r : Option SegmentNo} (h : FoundIs text work b count name r) where
   pub found_known : {k : SegmentNo} → r ≡ Some k → any (same (bytes_in text name)) (ids_of (segments_to text work b count)) ≡ true
-  unfolding is_there
-  found_known {k} e = number_there (segments_to text work b count) (bytes_in text name) ∙ rw (found_at (segment_number (segments_to text work b count) (bytes_in text name)) k.0 (sym h.answer ∙ e))
+  found_known {k} e = some_there (segments_to text work b count) (bytes_in text name) (found_at (segment_number (segments_to text work b count) (bytes_in text name)) k.0 (sym h.answer ∙ e))
 
   pub found_new : r ≡ None → any (same (bytes_in text name)) (ids_of (segments_to text work b count)) ≡ false
-  unfolding is_there
-  found_new e = number_there (segments_to text work b count) (bytes_in text name) ∙ rw (found_nothing (segment_number (segments_to text work b count) (bytes_in text name)) (sym h.answer ∙ e))
+  found_new e = none_there (segments_to text work b count) (bytes_in text name) (found_nothing (segment_number (segments_to text work b count) (bytes_in text name)) (sym h.answer ∙ e))
+
+  -- and none of them has the name
+  pub found_fresh : r ≡ None → (k : ℕ) → k < count → id_no text work b k ≡ bytes_in text name → ⊥
+  found_fresh e = number_none text work b (bytes_in text name) count (found_nothing (segment_number (segments_to text work b count) (bytes_in text name)) (sym h.answer ∙ e))

@@ -99,12 +99,12 @@ module _ {lo hi : ℕ} {w w' : List ℕ} (k : KeptWords lo hi w w') (text : List
 
   -- and the tables
   module _ (base n : ℕ) (l : lo ≤ base) where
-    pub segments_kept : base + 6 * n ≤ hi → segments_at text w' base n ≡ segments_at text w base n
+    pub segments_kept : base + 7 * n ≤ hi → segments_at text w' base n ≡ segments_at text w base n
     unfolding segments_at
-    segments_kept h = rows_kept (segment_at text) 6 base n (λ i a. segment_kept (base + 6 * i) (omega arith) (omega arith))
+    segments_kept h = rows_kept (segment_at text) 7 base n (λ i a. segment_kept (base + 7 * i) (omega arith) (omega arith))
 
-    pub segment_rows_kept : base + 6 * n ≤ hi → EachRow (SegmentRow text) 6 w base n → EachRow (SegmentRow text) 6 w' base n
-    segment_rows_kept h e = each_kept e (λ i a. segment_row_kept (base + 6 * i) (omega arith) (omega arith))
+    pub segment_rows_kept : base + 7 * n ≤ hi → EachRow (SegmentRow text) 7 w base n → EachRow (SegmentRow text) 7 w' base n
+    segment_rows_kept h e = each_kept e (λ i a. segment_row_kept (base + 7 * i) (omega arith) (omega arith))
 
     pub links_kept : base + 8 * n ≤ hi → links_at text w' base n ≡ links_at text w base n
     unfolding links_at

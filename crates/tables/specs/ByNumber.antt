@@ -26,7 +26,7 @@ abbrev pub entry_no : List ℕ → List ℕ → Bases → ℕ → Entry
 entry_no text work b i = entry_at text b work (b.lines + 3 * i)
 
 abbrev pub segment_no : List ℕ → List ℕ → Bases → ℕ → Segment
-segment_no text work b i = segment_at text work (b.segs + 6 * i)
+segment_no text work b i = segment_at text work (b.segs + 7 * i)
 
 abbrev pub link_no : List ℕ → List ℕ → Bases → ℕ → Link
 link_no text work b i = link_at text work (b.links + 8 * i)
@@ -45,7 +45,7 @@ abbrev pub segments_of : List ℕ → List ℕ → Bases → Counts → List Seg
 segments_of text work b n = segments_to text work b n.segs
 
 abbrev pub segments_from : List ℕ → List ℕ → Bases → Counts → ℕ → List Segment
-segments_from text work b n i = segments_at text work (b.segs + 6 * i) (n.segs - i)
+segments_from text work b n i = segments_at text work (b.segs + 7 * i) (n.segs - i)
 
 -- the first i links, and those from link i on
 abbrev pub links_to : List ℕ → List ℕ → Bases → ℕ → List Link

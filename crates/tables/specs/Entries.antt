@@ -54,7 +54,7 @@ by_record seg ln pa raw (Other l) = raw l
 
 -- what a record of the line table says, with the tables at b
 unfoldable pub entry_of : List ℕ → List ℕ → Bases → Record → Entry
-entry_of text work b (Segment n) = segment (segment_at text work (b.segs + 6 * n.0))
+entry_of text work b (Segment n) = segment (segment_at text work (b.segs + 7 * n.0))
 entry_of text work b (Link n) = link (link_at text work (b.links + 8 * n.0))
 entry_of text work b (Path n) = path (path_at text b.steps work (b.paths + 5 * n.0))
 entry_of text work b (Header l) = header (part l.start l.length text)

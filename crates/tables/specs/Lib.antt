@@ -1,5 +1,6 @@
 -- What the tables of a text hold.
 pub mod Segments
+pub mod Names
 pub mod Links
 pub mod Steps
 pub mod Paths

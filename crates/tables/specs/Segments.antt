@@ -17,7 +17,7 @@ segment_at text work at =
 
 -- the first n segments of the table at `base`
 unfoldable pub segments_at : List ℕ → List ℕ → ℕ → ℕ → List Segment
-segments_at text work base n = rows_at (segment_at text) 6 work base n
+segments_at text work base n = rows_at (segment_at text) 7 work base n
 
 -- A segment's row names parts of the text.
 pub record SegmentRow (text work : List ℕ) (at : ℕ) : Type 0 where

@@ -6,16 +6,18 @@ ghost use Rattle.scan.specs.Orientations.{sign_of};
 ghost use Rattle.scan.specs.Places.{Inside};
 ghost use Rattle.tables.specs.Props.{Fits-prop};
 ghost use Rattle.tables.specs.Tables.{Laid, Readable};
+ghost use Rattle.tables.specs.Names.{InSlot};
 ghost use Rattle.tables.specs.ByNumber.{tables_end, place_at, LineIs, SegmentIs, LinkIs, PathIs, StepIs, NamedIs};
 
 use crate::entry::{LineEntry, LinkNo, PathNo, SegmentNo, record_at};
 use crate::kinds::PathKind;
 use crate::path_steps::Steps;
 use crate::rows::{LinkWords, PathWords, SegmentWords, StepWords};
-use crate::segments::{find_segment, place_at};
+use crate::segments::{find_segment, in_slot, place_at};
 use crate::tables::{Bases, Counts, LINE, LINK, PATH, SEGMENT, STEP};
 use scan::orientation::Orientation;
 use scan::places::Place;
+use slots::walks::SlotRows;
 use work::work::word;
 
 #[derive(Clone, Copy)]
@@ -103,6 +105,13 @@ impl<'a> Graph<'a> {
             name: place_at(self.work, at),
             mark: orientation_at(self.work, at + 2),
         }
+    }
+
+    // The segments in the slot of a sum, from the last one back: those whose IDs have the sum are among them.
+    pub fn in_slot(&self, sum: u32) -> SlotRows<'a>
+        ensures { InSlot self.now.work.now self.now.b sum result }
+    {
+        in_slot(self.work, self.b, sum)
     }
 
     // The first segment that has the name.

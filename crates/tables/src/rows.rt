@@ -65,8 +65,8 @@ pub fn put_line(work: &mut [u32], b: Bases, i: usize, entry: LineEntry)
 
 // Puts segment `i`.
 pub fn put_segment(work: &mut [u32], b: Bases, i: SegmentNo, s: SegmentWords)
-    requires { (b.segs + 6 * i.0 + 6 ≤ length work.old) × Small (segment_words s) }
-    ensures { work.new ≡ sets work.old (b.segs + 6 * i.0) (segment_words s) }
+    requires { (b.segs + 7 * i.0 + 6 ≤ length work.old) × Small (segment_words s) }
+    ensures { work.new ≡ sets work.old (b.segs + 7 * i.0) (segment_words s) }
 {
     let at = b.segs + SEGMENT * i.0 as usize;
     put_row(

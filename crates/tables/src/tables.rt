@@ -5,7 +5,7 @@ ghost use Rattle.tables.specs.Tables.{Few, one_more, bases_for};
 // How many words a row has, table by table.
 pub const LINE: usize = 3;
 
-pub const SEGMENT: usize = 6;
+pub const SEGMENT: usize = 7;
 
 pub const LINK: usize = 8;
 
@@ -13,11 +13,12 @@ pub const PATH: usize = 5;
 
 pub const STEP: usize = 3;
 
-// Where the tables begin, in words of the work area.
+// Where the tables begin, in words of the work area; `heads`: the words of the slots in which segments are found by their IDs, up to the links.
 #[derive(Clone, Copy)]
 pub struct Bases {
     pub lines: usize,
     pub segs: usize,
+    pub heads: usize,
     pub links: usize,
     pub paths: usize,
     pub steps: usize,
@@ -33,18 +34,20 @@ pub struct Counts {
     pub steps: usize,
 }
 
-// The tables, one behind the other, with room for a tally; each but the last has a row to spare.
+// The tables, one behind the other, with room for a tally; each but the last has a row to spare, and there is a slot more than segments.
 pub fn bases_of(t: Counts) -> Bases
     requires { (t.lines ≤ 2097152) × (t.segs ≤ 2097152) × (t.links ≤ 2097152) × (t.paths ≤ 2097152) }
     ensures { result ≡ bases_for t }
 {
     let segs = LINE * t.lines + LINE;
-    let links = segs + SEGMENT * t.segs + SEGMENT;
+    let heads = segs + SEGMENT * t.segs + SEGMENT;
+    let links = heads + t.segs + 1;
     let paths = links + LINK * t.links + LINK;
     let steps = paths + PATH * t.paths + PATH;
     Bases {
         lines: 0,
         segs,
+        heads,
         links,
         paths,
         steps,

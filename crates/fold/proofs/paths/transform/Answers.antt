@@ -1,9 +1,12 @@
 use mathlib.Core.Path.{refl}
 use borrow.Author.Rules.{rules}
 use Rattle.fold.proofs.Passing.{passing_ready}
-use Rattle.fold.proofs.Transforming.{passing_start, transform_is}
+use Rattle.fold.proofs.Transforming.{cleared_readable, passing_start, transform_is}
 use Rattle.fold.proofs.Foldings.{path_given}
 use Rattle.fold.proofs.paths.transform.Goals as goal
+
+pub invariant_of-graph : goal.invariant_of-graph
+invariant_of-graph c = record { readable = cleared_readable c.args.tables.now.source c.clear_words.ensures }
 
 pub loop-p-init : goal.loop-p-init
 loop-p-init c = search passing_start

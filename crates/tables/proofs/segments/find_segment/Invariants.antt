@@ -1,6 +1,7 @@
--- `tables::segments::find_segment` meets its contract. The loop's invariant: no segment before has the name. Assumes nothing.
-use Rattle.tables.proofs.Numbers.{Unnamed}
+-- `tables::segments::find_segment` meets its contract. The loop's invariant is the state of the search.
+use Rattle.scan.specs.Places.{bytes_in}
+use Rattle.tables.proofs.Finding.{Finding}
 use Rattle.tables.proofs.segments.find_segment.Given as goal
 
-abbrev pub invariant-loop-i : goal.invariant-loop-i
-invariant-loop-i l = Unnamed l.text l.work l.b l.name l.i
+abbrev pub invariant-loop-k : goal.invariant-loop-k
+invariant-loop-k l = Finding l.text l.work l.b l.count (bytes_in l.text l.name) l.k-iterator
