@@ -1,7 +1,7 @@
 -- New segments whose names are made of one sanitized unit and one run length, and the search for the first free suffix. Assumes nothing.
 use Prim.Native.Nat.{ℕ, zero, suc, ◌+◌, ◌-◌, ◌≤◌, ◌<◌}
 use native.Mathlib.Omega.{arith}
-use mathlib.Core.Bool.{Bool, true, false, ◌||◌, or-true, or-false}
+use mathlib.Core.Bool.{Bool, true, false, or-true, or-false}
 use Rattle.std.specs.Prelude.{Option, None, Some}
 use mathlib.Core.List.{List, map, map-append}
 use mathlib.Core.Path.{◌≡◌, refl, sym, ap, ◌∙◌}
@@ -22,9 +22,13 @@ use Rattle.tables.specs.declared.tables.Counts.{Counts}
 use Rattle.tables.specs.Tables.{no_rows}
 use Rattle.tables.specs.Segments.{ids_of}
 use Rattle.tables.specs.declared.rows.SegmentWords.{SegmentWords}
-use Rattle.tables.specs.ByNumber.{segment_no, segments_of, SegmentIs, segments_from}
+use Rattle.tables.specs.ByNumber.{segment_no, segments_to, segments_of, SegmentIs}
+use Rattle.tables.specs.Names.{id_no}
+use Rattle.slots.specs.RowsLeft.{RowGiven, NoneGiven}
+use Rattle.slots.specs.declared.walks.SlotRows.{SlotRows}
+use Rattle.tables.proofs.Finding.{Finding, find_hit, find_more, find_end}
+use Rattle.tables.proofs.Numbers.{some_there, none_there}
 use Rattle.scan.specs.Places.{bytes_in}
-use Rattle.tables.proofs.ByNumber.{segments_next, segments_none}
 use Rattle.normalize_tables.specs.declared.layout.Layout.{Layout}
 use Rattle.normalize_tables.specs.News.{segment_words, new_at, news_at, names_at, Suffixed}
 use Rattle.normalize_tables.specs.declared.rows.NewSegmentWords.{NewSegmentWords}
@@ -120,28 +124,22 @@ module _ {text work : List ℕ} {b : Bases} {g : Layout} {first q : ℕ} {unit :
 
 -- ---- the names of the text
 
--- The state at i: a segment has the name where one from i on has it.
-pub record Comparing (text work : List ℕ) (b : Bases) (n : Counts) (name : List ℕ) (i : ℕ) : Type 0 where
-  pub high : i ≤ n.segs
-  pub rest : any (same name) (ids_of (segments_of text work b n)) ≡ any (same name) (ids_of (segments_from text work b n i))
+module _ {text work : List ℕ} {b : Bases} {count : ℕ} {name : List ℕ} {s t : SlotRows} (f : Finding text work b count name s) where
+  -- no segment has it
+  pub taken_none : NoneGiven s t → false ≡ any (same name) (ids_of (segments_to text work b count))
+  taken_none o = sym (none_there (segments_to text work b count) name (find_end f o))
 
-module _ {text work : List ℕ} {b : Bases} {n : Counts} {name : List ℕ} {i : ℕ} (s : Comparing text work b n name i) where
-  module _ {x : SegmentWords} {r : Bool} (l : i < n.segs) (u : SegmentIs text work b i x) (e : r ≡ same name (bytes_in text x.id)) where
-    step : any (same name) (ids_of (segments_of text work b n)) ≡ (r || any (same name) (ids_of (segments_from text work b n (i + 1))))
-    unfolding any ids_of
-    step = s.rest ∙ rw (segments_next text work b n i l, u.segment, ← e)
+  module _ {k : ℕ} (o : RowGiven s k t) {x : SegmentWords} (u : SegmentIs text work b k x) {r : Bool} (e : r ≡ same name (bytes_in text x.id)) where
+    its_id : id_no text work b k ≡ bytes_in text x.id
+    its_id = ap (λ s. s.id) u.segment
 
-    pub comparing_hit : r ≡ true → true ≡ any (same name) (ids_of (segments_of text work b n))
-    comparing_hit t = sym (step ∙ rw t)
+    -- this one has it
+    pub taken_hit : r ≡ true → true ≡ any (same name) (ids_of (segments_to text work b count))
+    taken_hit z = sym (some_there (segments_to text work b count) name (find_hit f o (its_id ∙ sym (same_equal name (bytes_in text x.id) (rw e at z)))))
 
-    pub comparing_more : r ≡ false → Comparing text work b n name (i + 1)
-    comparing_more t = record { high = omega arith; rest = step ∙ rw t }
-
-  pub comparing_end : n.segs ≤ i → false ≡ any (same name) (ids_of (segments_of text work b n))
-  unfolding any ids_of
-  comparing_end l = sym (s.rest ∙ rw (segments_none text work b n i l))
-
-pub ruleset comparing = (comparing_hit, comparing_more, comparing_end)
+    -- this one has not
+    pub taken_more : r ≡ false → Finding text work b count name t
+    taken_more z = find_more f o (λ q. clash (equal_same name (bytes_in text x.id) (sym q ∙ its_id)) (rw e at z))
 
 -- ---- the first free suffix
 

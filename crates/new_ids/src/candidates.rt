@@ -8,7 +8,7 @@ ghost use Rattle.normalize_tables.specs.News.{first_of, Suffixed};
 ghost use Rattle.new_ids.specs.Ids.{is_kin, Tried};
 
 use crate::rows::new_number;
-use new_names::names::is_new_name;
+use new_names::names::{is_new_name, new_name_sum};
 use new_names::sanitized::same_sanitized;
 use normalize_tables::news::News;
 use tables::entry::SegmentNo;
@@ -43,13 +43,12 @@ pub fn next_suffix(news: &News, unit: &[u8], count: usize) -> usize
     0
 }
 
-// Has a segment of the text the name of a unit, a run length and a suffix?
-#[tactic(auto, using(crate::proofs::Kin::comparing))]
+// Has a segment of the text the name of a unit, a run length and a suffix? By the slot of the name's sum (R-6): the name itself is not written.
 pub fn is_taken(graph: &Graph, unit: &[u8], count: usize, suffix: usize) -> bool
     ensures { result ≡ any (same (new_name unit.now count suffix)) (ids_of (segments_of graph.now.text.now graph.now.work.now graph.now.b graph.now.n)) }
 {
-    for i in 0..graph.n.segs {
-        let id = graph.segment(SegmentNo(i as u32)).id;
+    for k in graph.in_slot(new_name_sum(unit, count, suffix)) {
+        let id = graph.segment(SegmentNo(k as u32)).id;
         if is_new_name(unit, count, suffix, id.of(graph.text)) {
             return true;
         }
