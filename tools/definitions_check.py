@@ -15,6 +15,7 @@ import prover
 # Where the definitions of the services stand: (crate, module of its specs) and the names taken from it.
 USES = {
     ("gfa_spec", "Bytes"): "same, last_difference, all",
+    ("gfa_spec", "Sums"): "name_sum",
     ("gfa_spec", "Calls"): "Refusal, Outcome, answer",
     ("gfa_spec", "Services"): "spell_path",
     ("normalize_spec", "Counting"): "Stats",
@@ -90,7 +91,12 @@ def claim(case):
     return f"{kind}-is {numbers(case.output)} {counters} {call}"
 
 
-def leaf_claim(case):
+def sum_claim(case):
+    """what is to be found true of a case of the leaf name_sum: its number is the sum"""
+    return f"eqb {case.number} (name_sum {numbers(case.text)})"
+
+
+def difference_claim(case):
     """what is to be found true of a case of the leaf last_difference: its numbers are whether the two are the same, whether a place was
     found, and which; of two lengths no place is asked for"""
     first, second = case.text[: case.arg], case.text[case.arg :]
@@ -102,14 +108,18 @@ def leaf_claim(case):
     return f"({equal} && {place} (last_difference {pair}))"
 
 
+# The leaves that a definition answers.
+LEAVES = {"last_difference": difference_claim, "name_sum": sum_claim}
+
+
 def main():
     if sys.argv[1:2] in (["-h"], ["--help"]) or len(sys.argv) > 2:
         sys.exit(__doc__)
     cases = prover.recorded(*sys.argv[1:])
     claims = [claim(case) for case in cases]
     if len(sys.argv) == 1:
-        leaves = [case for case in prover.listing(prover.LEAVES) if case.service == "last_difference"]
-        cases, claims = cases + leaves, claims + [leaf_claim(case) for case in leaves]
+        leaves = [case for case in prover.listing(prover.LEAVES) if case.service in LEAVES]
+        cases, claims = cases + leaves, claims + [LEAVES[case.service](case) for case in leaves]
     if not cases:
         sys.exit("definitions_check: no case was read")
     wrong = prover.differing(head(), list(USES), OWN, claims, CHUNK)

@@ -8,6 +8,7 @@ use scan::names::{is_star, last_difference, same_bytes, same_name};
 use scan::numbers::number_of;
 use scan::places::Place;
 use scan::sequences::sequence_len;
+use slots::sums::name_sum;
 
 // An answer of yes or no.
 fn truth(yes: bool) -> [usize; 4] {
@@ -57,6 +58,7 @@ pub fn reading(name: &[u8], row: &[usize; 24], text: &[u8]) -> [usize; 4] {
         b"same_constant" => truth(same_bytes(s, t)),
         b"same_name" => truth(names(text, at)),
         b"last_difference" => difference(s, t),
+        b"name_sum" => [name_sum(text) as usize, 0, 0, 0],
         _ => placing(name, row, text),
     }
 }

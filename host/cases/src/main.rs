@@ -22,7 +22,7 @@ usage: cases COMMAND
                    (arguments at the end of the numbers) or mixed
   summary FILE     count cases by service and number
   text SHAPE BYTES write one large text; SHAPE is segments, links, long-paths, long-runs,
-                   clashes, crlf or nothing-to-fold
+                   clashes, beginnings, one-slot, crlf or nothing-to-fold
 
 docs/ANSWERS.md says the format of the cases.
 ";

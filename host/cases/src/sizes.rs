@@ -16,6 +16,8 @@ pub enum Shape {
     Clashes,
     /// Names that share their first 40 bytes and differ in the last 4.
     Beginnings,
+    /// Names that all have one sum, so that all are in one slot.
+    OneSlot,
     /// Many segments, every line with CRLF.
     Crlf,
     /// Many segments and steps, no self-link.
@@ -23,13 +25,14 @@ pub enum Shape {
 }
 
 impl Shape {
-    pub const ALL: [Shape; 8] = [
+    pub const ALL: [Shape; 9] = [
         Shape::Segments,
         Shape::Links,
         Shape::LongPaths,
         Shape::LongRuns,
         Shape::Clashes,
         Shape::Beginnings,
+        Shape::OneSlot,
         Shape::Crlf,
         Shape::NothingToFold,
     ];
@@ -42,6 +45,7 @@ impl Shape {
             Shape::LongRuns => "long-runs",
             Shape::Clashes => "clashes",
             Shape::Beginnings => "beginnings",
+            Shape::OneSlot => "one-slot",
             Shape::Crlf => "crlf",
             Shape::NothingToFold => "nothing-to-fold",
         }
@@ -61,6 +65,7 @@ pub fn text(shape: Shape, bytes: usize) -> Vec<u8> {
         Shape::LongRuns => paths(bytes, bytes / 16),
         Shape::Clashes => nodes(bytes, "\n", &clashing, true),
         Shape::Beginnings => nodes(bytes, "\n", &beginning, true),
+        Shape::OneSlot => nodes(bytes, "\n", &one_sum, true),
         Shape::Crlf => nodes(bytes, "\r\n", &numbered, true),
         Shape::NothingToFold => nodes(bytes, "\n", &numbered, false),
     }
@@ -91,6 +96,13 @@ fn beginning(number: usize) -> String {
         "Hordeum_vulgare.Morex.V3.chromosome_5H.p{:04}",
         number % 10_000
     )
+}
+
+/// Thirteen pairs of bytes, each one of two by a bit of the number: 33 * 66 + 121
+/// is 33 * 67 + 88, so that all 8,192 names have one sum.
+fn one_sum(number: usize) -> String {
+    let pair = |bit: usize| if number >> bit & 1 == 0 { "By" } else { "CX" };
+    (0..13).map(pair).collect()
 }
 
 /// Segments, their self-links if asked for, and a path that visits each twice.
@@ -202,6 +214,20 @@ mod tests {
             assert_eq!(name.len(), 44);
             assert_eq!(name[..40], beginning(0)[..40]);
         }
+    }
+
+    #[test]
+    fn names_of_one_slot_have_one_sum() {
+        let sum = |name: &str| {
+            name.bytes().fold(5381u32, |sum, byte| {
+                sum.wrapping_mul(33).wrapping_add(u32::from(byte))
+            })
+        };
+        let mut names: Vec<String> = (0..8192).map(one_sum).collect();
+        assert!(names.iter().all(|name| sum(name) == sum(&names[0])));
+        names.sort();
+        names.dedup();
+        assert_eq!(names.len(), 8192);
     }
 
     #[test]
