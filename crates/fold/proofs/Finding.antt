@@ -1,4 +1,4 @@
--- The segment made for a unit and a run length, found along its chain; and the names of nodes. Assumes nothing.
+-- The segment made for a unit and a run length, found among the new segments on the unit; and the names of nodes. Assumes nothing.
 use Prim.Native.Nat.{ℕ, zero, suc, ◌+◌, ◌-◌, ◌≤◌, ◌<◌}
 use native.Mathlib.Decide.{dec_lt}
 use native.Mathlib.Omega.{arith}
@@ -85,11 +85,11 @@ module _ {text w : List ℕ} {b : Bases} {n : Counts} {g : Layout} {first q : �
 
   pub made_found : {r : Option ℕ} {j : ℕ} → MadeIs w g q unit count r → r ≡ Some j → made_for (segment_no text w b unit).id count (news_at text w b g first q) ≡ Some (new_at text b g first w j).id
   unfolding name
-  made_found {j = j} f e = let o = f.on j e in found_at q j (omega arith) o.0 o.1 o.2
+  made_found {j = j} f e = let o = f.on j e in found_at q j (omega arith) o.0 o.1.of_unit o.1.of_count
 
   pub made_none : {r : Option ℕ} → MadeIs w g q unit count r → r ≡ None → made_for (segment_no text w b unit).id count (news_at text w b g first q) ≡ None
   unfolding name word_of
-  made_none f e = none_of q (omega arith) (λ i l. f.later i (rw e (omega arith)) l)
+  made_none f e = none_of q (omega arith) (λ i l u c. f.later i (rw e (omega arith)) l (record { of_unit = u; of_count = c }))
 
 -- ---- names of nodes
 

@@ -14,13 +14,13 @@ use Rattle.gfa_spec.specs.Reading.{Segment}
 use Rattle.gfa_spec.specs.Records.{segment_number}
 use Rattle.gfa_spec.specs.Runs.{Run, runs as runs_of, is_repeat, bit}
 use Rattle.gfa_spec.proofs.Counting.{bit_set}
-use Rattle.gfa_spec.proofs.Options.{None-ne-Some}
 use Rattle.normalize_spec.specs.Folding.{AllTransformed, is_folded_run, transform_paths, none_made}
 use Rattle.normalize_spec.specs.Counting.{folded_runs}
 use Rattle.normalize_spec.proofs.Marks.{kept_run}
 use Rattle.normalize_spec.proofs.Onward.{before_paths, paths_start, paths_end}
-use Rattle.work.specs.Rows.{rows_at, number_in, Cleared}
+use Rattle.work.specs.Rows.{rows_at, Cleared}
 use Rattle.work.proofs.Rows.{each_none}
+use Rattle.slots.proofs.Slotting.{slots_cleared}
 use Rattle.tables.specs.declared.tables.Bases.{Bases}
 use Rattle.tables.specs.declared.tables.Counts.{Counts}
 use Rattle.tables.specs.Segments.{ids_of}
@@ -33,8 +33,8 @@ use Rattle.normalize_tables.specs.declared.layout.Layout.{Layout}
 use Rattle.normalize_tables.specs.declared.layout.Made.{Made}
 use Rattle.normalize_tables.specs.Layout.{Source}
 use Rattle.normalize_tables.specs.Marks.{Marked}
-use Rattle.normalize_tables.specs.News.{first_of, first_number, news_at, names_at, new_paths_at}
-use Rattle.normalize_tables.specs.NewByNumber.{new_paths_to, KeptTo}
+use Rattle.normalize_tables.specs.News.{segment_words, first_of, first_number, news_at, names_at, new_paths_at}
+use Rattle.normalize_tables.specs.NewByNumber.{unit_slots, new_paths_to, KeptTo}
 use Rattle.normalize_tables.specs.Rewritten.{NewRows, Folded}
 use Rattle.new_segs.specs.Makes.{next_at, made_at, Making}
 use Rattle.fold.specs.Turns.{Folds}
@@ -72,7 +72,7 @@ module _ {text before first : List ℕ} {b : Bases} {n : Counts} {g : Layout} (s
 
   -- nothing is made
   none_making : {f : Option ℕ} → f ≡ (none_made (segments_of text first b n)).next → Making text first b n g (first_of f) 0
-  unfolding number_in first_number
+  unfolding first_number
   none_making e =
       record {
         source = cleared_source;
@@ -81,8 +81,7 @@ module _ {text before first : List ℕ} {b : Bases} {n : Counts} {g : Layout} (s
         rows = each_none;
         suffixed = record { taken = λ j i h. absurd (omega arith); rising = λ i j h l. absurd (omega arith) };
         alone = λ i j h l. absurd (omega arith);
-        lasts = λ k h. rw (c.zeros k h) (record { on = λ j z. absurd (None-ne-Some j z); later = λ i a l. absurd (omega arith) });
-        chained = record { back = λ j h. absurd (omega arith) };
+        slotted = (slots_cleared {s = unit_slots n g} (omega (arith, s.placed)) c).slotted (λ j. (segment_words first g j).unit.0);
       }
 
   pub passing_start : {f : Option ℕ} → AllKnown text before b n → f ≡ (none_made (segments_of text first b n)).next

@@ -1,21 +1,19 @@
--- One new segment more: its row is stored behind the others, and it is the last on its unit. Assumes nothing.
-use Prim.Native.Nat.{ℕ, suc, ◌+◌, ◌≤◌, ◌<◌}
+-- One new segment more: its row is stored behind the others, and into the slot of its unit. Assumes nothing.
+use Prim.Native.Nat.{ℕ, suc, ◌+◌, ◌*◌, ◌≤◌, ◌<◌}
 use native.Mathlib.Decide.{dec_lt, ℕ_discrete}
 use native.Mathlib.Numerals.{add-one}
 use native.Mathlib.Omega.{arith}
 use mathlib.Core.List.{List, [], ◌∷◌, ◌++◌}
-use mathlib.Core.Logic.{◌⊎◌, inl, inr}
+use mathlib.Core.Logic.{inl, inr}
 use mathlib.Core.Path.{◌≡◌, refl, sym, ap, ◌∙◌}
 use lib.ListN.{length, get_or}
-use borrow.Author.Count.{below_more}
 use Rattle.gfa_spec.specs.Bytes.{repeat}
 use Rattle.gfa_spec.specs.Decimal.{largest64}
 use Rattle.gfa_spec.specs.Runs.{Run}
 use Rattle.normalize_spec.specs.Folding.{new_segment, make_segment}
-use Rattle.std.specs.Prelude.{Option, Some}
 use Rattle.tables.specs.declared.entry.SegmentNo.{SegmentNo}
-use Rattle.work.specs.Rows.{word_of, number_in}
-use Rattle.work.proofs.Rows.{each_more}
+use Rattle.work.specs.Rows.{word_of, Outside, span}
+use Rattle.work.proofs.Rows.{each_more, only_kept, outside_less}
 use Rattle.tables.specs.declared.tables.Bases.{Bases}
 use Rattle.tables.specs.declared.tables.Counts.{Counts}
 use Rattle.tables.specs.ByNumber.{segment_no, segments_of}
@@ -23,14 +21,16 @@ use Rattle.tables.proofs.ByNumber.{TablesKept, segment_stands}
 use Rattle.normalize_tables.specs.declared.layout.Layout.{Layout}
 use Rattle.normalize_tables.specs.declared.rows.NewSegmentWords.{NewSegmentWords}
 use Rattle.normalize_tables.specs.News.{segment_words, new_id_of, new_at, names_at, Agree, Suffixed}
-use Rattle.normalize_tables.specs.NewByNumber.{NewSegmentPut, KeptTo, SegmentsKept, PathsKept}
+use Rattle.normalize_tables.specs.NewByNumber.{unit_slots, NewSegmentPut, KeptTo, SegmentsKept, PathsKept}
 use Rattle.normalize_tables.proofs.Nodes.{names_length, news_more, names_more}
-use Rattle.normalize_tables.proofs.NewByNumber.{segments_words, steps_words, paths_words, unit_kept, count_kept, suffix_kept, before_kept}
+use Rattle.normalize_tables.proofs.NewByNumber.{segment_kept, segments_words, steps_words, paths_words, unit_kept, count_kept, suffix_kept}
 use Rattle.normalize_tables.proofs.NewsKept.{segment_rows_kept, new_kept, news_kept, names_kept}
 use Rattle.new_ids.proofs.Suffixes.{RowAdded, suffixed_number, suffixed_name}
-use Rattle.new_segs.specs.Chains.{LastOn, LastPut, Chained}
+use Rattle.slots.specs.Slots.{Addable, RowAdded as SlotAdded}
+use Rattle.slots.proofs.Slotting.{slotted_same}
+use Rattle.new_segs.specs.Chains.{UnitsSlotted}
 use Rattle.new_segs.specs.Makes.{next_at, made_at, Making, SuffixFor, Wanted, RowFor, Frame, SegmentMade}
-use Rattle.new_segs.proofs.Chaining.{last_small, last_kept, chained_kept, last_here, last_elsewhere}
+use Rattle.new_segs.proofs.Chaining.{units_kept}
 use Rattle.new_segs.proofs.Keeping.{of_text, low_stands, source_low}
 use Rattle.new_segs.proofs.Lookups.{unit_sequence}
 use Rattle.gfa_spec.proofs.Each.{nth_front}
@@ -45,62 +45,78 @@ pub record Put (n : Counts) (g : Layout) (q unit count suffix : ℕ) (w w' : Lis
   pub unit_is : (segment_words w' g q).unit.0 ≡ unit
   pub count_is : (segment_words w' g q).count ≡ count
   pub suffix_is : (segment_words w' g q).suffix ≡ suffix
-  pub back_is : (segment_words w' g q).before ≡ number_in (get_or w (g.last + unit) 0)
-  pub last_is : number_in (get_or w' (g.last + unit) 0) ≡ Some q
-  pub last_other : (k : ℕ) → k < n.segs → (k ≡ unit → ⊥) → get_or w' (g.last + k) 0 ≡ get_or w (g.last + k) 0
-
--- a number is on one side of another, or equal to it
-side : (base k unit : ℕ) → (k ≡ unit → ⊥) → (base + k < base + unit) ⊎ (base + unit + 1 ≤ base + k)
-side base k unit d = go (dec_lt k unit)
-  where
-    go : Dec (k < unit) → (base + k < base + unit) ⊎ (base + unit + 1 ≤ base + k)
-    go (yes m) = inl (omega arith)
-    go (no m) = inr (omega arith)
+  pub slotted : UnitsSlotted w' n g (q + 1)
 
 -- the row of the next new segment
-pub row_for : {text w : List ℕ} {b : Bases} {n : Counts} {g : Layout} {first q count suffix : ℕ} {unit : SegmentNo} {before : Option ℕ} → Wanted text w b n g first q unit.0 count
-    → SuffixFor text w b n g first q unit.0 count suffix → before ≡ number_in (get_or w (g.last + unit.0) 0)
-    → RowFor text w b n g first q unit.0 count (record { unit = unit; count = count; suffix = suffix; before = before })
-row_for {unit = unit} x t e =
+pub row_for : {text w : List ℕ} {b : Bases} {n : Counts} {g : Layout} {first q count suffix : ℕ} {unit : SegmentNo} → Wanted text w b n g first q unit.0 count
+    → SuffixFor text w b n g first q unit.0 count suffix → RowFor text w b n g first q unit.0 count (record { unit = unit; count = count; suffix = suffix })
+row_for x t =
     let s = x.making.source in
     let l = s.placed in
     let f = s.readable.few in
-    let last = last_small (x.making.lasts unit.0 x.there) in
     record {
       of_unit = refl;
       of_count = refl;
       of_suffix = t;
-      of_last = e;
       room = omega (arith, x.room);
-      small = (omega (arith, x.few), omega (arith, t.few, x.room), rw e (omega (arith, last, x.room)), omega (arith, x.room));
-      last = omega (arith, x.there);
+      small = (omega (arith, x.few), omega (arith, t.few, x.room), omega (arith, x.room));
     }
 
--- by two stores: the row, and the word of the last new segment on the unit
-stored : {text w v w' : List ℕ} {b : Bases} {n : Counts} {g : Layout} {first q unit count : ℕ} {x : NewSegmentWords} → Wanted text w b n g first q unit count → RowFor text w b n g first q unit count x
-    → NewSegmentPut w v g q x → LastPut v w' g unit q → Put n g q unit count x.suffix w w'
-stored {w = w} {v} {w'} {b} {n} {g} {first} {q} {unit} {count} {x} want f r o =
-    let l = want.making.source.placed in
-    record {
-      long = o.long ∙ r.long;
-      low = record { word = λ i a. late i (inl (omega arith)) ∙ r.only.word i (inl (omega (arith, l.paths, l.segs)), tt) };
-      paths = paths_words g n.paths (record { word = λ i a b. late i (inr (omega (arith, l.paths, want.there))) ∙ r.only.word i (inl (omega (arith, l.segs)), tt) });
-      segs = segments_words g q (record { word = λ i a b. late i (inr (omega (arith, l.paths, l.segs, want.there))) ∙ r.only.word i (inl b, tt) });
-      behind = λ i a. late i (inr (omega (arith, l.paths, l.segs, l.steps, want.there))) ∙ r.only.word i (inr (omega (arith, l.steps, want.room)), tt);
-      unit_is = unit_kept g row q (omega arith) ∙ ap (λ x. x.unit.0) r.words ∙ f.of_unit;
-      count_is = count_kept g row q (omega arith) ∙ ap (λ x. x.count) r.words ∙ f.of_count;
-      suffix_is = suffix_kept g row q (omega arith) ∙ ap (λ x. x.suffix) r.words;
-      back_is = before_kept g row q (omega arith) ∙ ap (λ x. x.before) r.words ∙ f.of_last;
-      last_is = rw (o.is, add-one) (unfold number_in in refl);
-      last_other = λ k m d. late (g.last + k) (side g.last k unit d) ∙ r.only.word (g.last + k) (inl (omega (arith, l.paths, l.segs)), tt);
-    }
-  where
-    late : (i : ℕ) → (i < g.last + unit) ⊎ (g.last + unit + 1 ≤ i) → get_or w' i 0 ≡ get_or v i 0
-    late i a = o.only.word i (a, tt)
+-- by two stores: the row, and its word of the slots with that of its unit's slot
+module _ {text w v : List ℕ} {b : Bases} {n : Counts} {g : Layout} {first q unit count : ℕ} {x : NewSegmentWords} (want : Wanted text w b n g first q unit count)
+    (f : RowFor text w b n g first q unit count x) (r : NewSegmentPut w v g q x) where
+  pub add_room : Addable v (unit_slots n g) unit q
+  add_room =
+      let l = want.making.source.placed in
+      record {
+        small = want.there;
+        few = f.small.2;
+        room = omega (arith, r.long);
+        stands = omega (arith, r.long, f.room);
+        wide = omega arith;
+        apart = λ i h. inr (omega arith);
+      }
 
-    -- the second store leaves the rows alone
-    row : SegmentsKept g (q + 1) v w'
-    row = let l = want.making.source.placed in segments_words g (q + 1) (record { word = λ i a b. late i (inr (omega (arith, l.paths, l.segs, want.there))) })
+  -- those before it are in their slots
+  units1 : UnitsSlotted v n g q
+  units1 =
+      let l = want.making.source.placed in
+      units_kept n g
+      (segments_words g q (only_kept g.segs (g.segs + 4 * q) r.only (inl (omega arith), tt))) r.long
+      (only_kept g.last (g.last + n.segs) r.only (inl (omega (arith, l.paths, l.segs)), tt)) want.making.slotted
+
+  module _ {w' : List ℕ} (o : SlotAdded v w' (unit_slots n g) unit q) where
+    -- the second store leaves what the rows say
+    same : (i : ℕ) → i < q + 1 → segment_words w' g i ≡ segment_words v g i
+    same i h =
+        let l = want.making.source.placed in
+        segment_kept g i (only_kept (g.segs + 4 * i) (g.segs + 4 * i + 3) o.only (inr (omega (arith, l.paths, l.segs)), (inl (omega arith), tt)))
+
+    own : segment_words w' g q ≡ x
+    own = same q (omega arith) ∙ r.words
+
+    -- a word that is neither in the row nor a slot's
+    other : (i : ℕ) → Outside i (span (g.segs + 4 * q) (g.segs + 4 * (q + 1)) ∷ span g.last (g.last + n.segs) ∷ []) → get_or w' i 0 ≡ get_or w i 0
+    other i h =
+        o.only.word i (h.1.0, (outside_less (g.segs + 3 + 4 * q) (g.segs + 3 + 4 * q + 1) h.0 (omega arith) (omega arith), tt))
+        ∙ r.only.word i (h.0, tt)
+
+    stored : Put n g q unit count x.suffix w w'
+    stored =
+        let l = want.making.source.placed in
+        record {
+          long = o.long ∙ r.long;
+          low = record { word = λ i a. other i (inl (omega (arith, l.paths, l.segs)), (inl (omega arith), tt)) };
+          paths = paths_words g n.paths (record { word = λ i a b. other i (inl (omega (arith, l.segs)), (inr (omega (arith, l.paths)), tt)) });
+          segs = segments_words g q (record { word = λ i a b. other i (inl b, (inr (omega (arith, l.paths, l.segs)), tt)) });
+          behind = λ i a. other i (inr (omega (arith, l.steps, want.room)), (inr (omega (arith, l.paths, l.segs, l.steps)), tt));
+          unit_is = ap (λ x. x.unit.0) own ∙ f.of_unit;
+          count_is = ap (λ x. x.count) own ∙ f.of_count;
+          suffix_is = ap (λ x. x.suffix) own;
+          slotted =
+              slotted_same (λ j. (segment_words w' g j).unit.0) (λ j h. ap (λ x. x.unit.0) (same j h))
+              (o.slotted (λ j. (segment_words v g j).unit.0) units1 (ap (λ x. x.unit.0) r.words ∙ f.of_unit));
+        }
 
 -- ---- what the tables say then
 
@@ -171,26 +187,11 @@ module _ {text w w' : List ℕ} {b : Bases} {n : Counts} {g : Layout} {first q u
       go (yes e) =
           let unit-there : (segment_words w g i).unit.0 ≡ unit = sym (unit_kept g p.segs i (omega arith)) ∙ u ∙ rw e p.unit_is in
           let count-there : (segment_words w g i).count ≡ count = sym (count_kept g p.segs i (omega arith)) ∙ c ∙ rw e p.count_is in
-          x.fresh.later i (unfold word_of in omega arith) (omega arith) unit-there count-there
+          x.fresh.later i (unfold word_of in omega arith) (omega arith) (record { of_unit = unit-there; of_count = count-there })
       go (no e) =
           let low : i < q = omega arith in
           let high : j < q = omega arith in
           x.making.alone i j l high (sym (unit_kept g p.segs i low) ∙ u ∙ unit_kept g p.segs j high) (sym (count_kept g p.segs i low) ∙ c ∙ count_kept g p.segs j high)
-
-  put_lasts : (k : ℕ) → k < n.segs → LastOn w' g k (suc q) (number_in (get_or w' (g.last + k) 0))
-  put_lasts k l = go (ℕ_discrete k unit)
-    where
-      go : Dec (k ≡ unit) → LastOn w' g k (suc q) (number_in (get_or w' (g.last + k) 0))
-      go (yes e) = rw (e, p.last_is) (last_here q p.unit_is)
-      go (no e) = rw (p.last_other k l e) (last_elsewhere (λ f. e (sym f ∙ p.unit_is)) (last_kept p.segs (omega arith) (x.making.lasts k l)))
-
-  put_chained : Chained w' g (suc q)
-  put_chained =
-      let old = (chained_kept p.segs x.making.chained).back in
-      record { back = λ j l. below_more (λ j. LastOn w' g (segment_words w' g j).unit.0 j (segment_words w' g j).before) q old here j (omega arith) }
-    where
-      here : LastOn w' g (segment_words w' g q).unit.0 q (segment_words w' g q).before
-      here = rw (p.unit_is, p.back_is) (last_kept p.segs (omega arith) (x.making.lasts unit x.there))
 
   put_making : Making text w' b n g first (suc q)
   put_making =
@@ -203,8 +204,7 @@ module _ {text w w' : List ℕ} {b : Bases} {n : Counts} {g : Layout} {first q u
             (record { unit = rw p.unit_is x.there; count = rw p.count_is x.few; suffix = rw p.suffix_is (omega (arith, t.few)) });
         suffixed = put_suffixed;
         alone = put_alone;
-        lasts = put_lasts;
-        chained = put_chained;
+        slotted = rw add-one at p.slotted;
       }
 
   segment_is : SegmentMade text w w' b n g first q unit count
@@ -212,5 +212,5 @@ module _ {text w w' : List ℕ} {b : Bases} {n : Counts} {g : Layout} {first q u
 
 -- by the two stores
 pub segment_made : {text w v w' : List ℕ} {b : Bases} {n : Counts} {g : Layout} {first q unit count : ℕ} {x : NewSegmentWords} → Wanted text w b n g first q unit count
-    → RowFor text w b n g first q unit count x → NewSegmentPut w v g q x → LastPut v w' g unit q → SegmentMade text w w' b n g first q unit count
+    → RowFor text w b n g first q unit count x → NewSegmentPut w v g q x → SlotAdded v w' (unit_slots n g) unit q → SegmentMade text w w' b n g first q unit count
 segment_made x f r o = segment_is x f.of_suffix (stored x f r o)

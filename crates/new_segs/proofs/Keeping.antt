@@ -1,5 +1,5 @@
 -- What the tables say is kept where their words are. Assumes nothing.
-use Prim.Native.Nat.{ℕ, ◌+◌, ◌≤◌, ◌<◌}
+use Prim.Native.Nat.{ℕ, ◌≤◌, ◌<◌}
 use native.Mathlib.Omega.{arith}
 use mathlib.Core.List.{List}
 use mathlib.Core.Path.{◌≡◌, sym, ◌∙◌}
@@ -15,7 +15,7 @@ use Rattle.normalize_tables.proofs.NewByNumber.{unit_kept, count_kept}
 use Rattle.normalize_tables.proofs.NewsKept.{segment_rows_kept, suffixed_kept}
 use Rattle.normalize_tables.proofs.Sources.{standing, source_stands}
 use Rattle.new_segs.specs.Makes.{Making}
-use Rattle.new_segs.proofs.Chaining.{last_kept, chained_kept}
+use Rattle.new_segs.proofs.Chaining.{units_kept}
 
 -- fewer words are kept too
 pub kept_less : {hi : ℕ} {w w' : List ℕ} (hi' : ℕ) → KeptTo hi w w' → hi' ≤ hi → KeptTo hi' w w'
@@ -48,8 +48,7 @@ making_kept {text} {w} {w'} {b} {n} {g} {first} {q} m k segs e =
       alone = λ i j h l u c.
           let low : i < q = omega arith in
           m.alone i j h l (sym (unit_kept g segs i low) ∙ u ∙ unit_kept g segs j l) (sym (count_kept g segs i low) ∙ c ∙ count_kept g segs j l);
-      lasts = λ i h. rw (k.word (g.last + i) (omega (arith, m.source.placed.paths))) (last_kept segs (omega arith) (m.lasts i h));
-      chained = chained_kept segs m.chained;
+      slotted = units_kept n g segs e (record { word = λ i l h. k.word i (omega (arith, m.source.placed.paths)) }) m.slotted;
     }
   where
     low : KeptTo g.last w w'

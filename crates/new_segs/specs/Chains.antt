@@ -1,25 +1,20 @@
--- The new segments on a unit, from the last one back: a new segment's row has the one before it.
-use Rattle.std.specs.Prelude.{ℕ, ◌+◌, ◌≤◌, ◌<◌, Option, Some, List, [], ◌∷◌, ◌≡◌, length, get_or}
-use Rattle.work.specs.Rows.{span, Only, word_of}
+-- New segments in the slots of their units, and the last that was made for a run. Document 01, "Folding", rule 4; document 02, R-6.
+use Rattle.std.specs.Prelude.{ℕ, Option, List, ◌≡◌}
+use Rattle.slots.specs.Slots.{Last, Slotted}
+use Rattle.tables.specs.declared.tables.Counts.{Counts}
 use Rattle.normalize_tables.specs.declared.layout.Layout.{Layout}
 use Rattle.normalize_tables.specs.News.{segment_words}
+use Rattle.normalize_tables.specs.NewByNumber.{unit_slots}
 
--- The last of the first q new segments on a unit is v; or there is none.
-pub record LastOn (work : List ℕ) (g : Layout) (unit q : ℕ) (v : Option ℕ) : Type 0 where
-  pub on : (j : ℕ) → v ≡ Some j → (j < q) × ((segment_words work g j).unit.0 ≡ unit)
-  pub later : (i : ℕ) → word_of v ≤ i → i < q → (segment_words work g i).unit.0 ≡ unit → ⊥
+-- the first q new segments are in the slots of their units
+abbrev pub UnitsSlotted : List ℕ → Counts → Layout → ℕ → Type 0
+UnitsSlotted work n g q = Slotted (λ j. (segment_words work g j).unit.0) work (unit_slots n g) q
 
--- New segment q is put down as the last on a unit; only this word has changed.
-pub record LastPut (before work : List ℕ) (g : Layout) (unit q : ℕ) : Type 0 where
-  pub is : get_or work (g.last + unit) 0 ≡ q + 1
-  pub long : length work ≡ length before
-  pub only : Only (span (g.last + unit) (g.last + unit + 1) ∷ []) before work
+-- New segment j is of this unit and this run length.
+pub record OfRun (work : List ℕ) (g : Layout) (unit count j : ℕ) : Type 0 where
+  pub of_unit : (segment_words work g j).unit.0 ≡ unit
+  pub of_count : (segment_words work g j).count ≡ count
 
--- Each new segment's row has the last before it on its unit.
-pub record Chained (work : List ℕ) (g : Layout) (q : ℕ) : Type 0 where
-  pub back : (j : ℕ) → j < q → LastOn work g (segment_words work g j).unit.0 j (segment_words work g j).before
-
--- The last of the first q new segments of a unit and a run length is r; or there is none.
-pub record MadeIs (work : List ℕ) (g : Layout) (q unit count : ℕ) (r : Option ℕ) : Type 0 where
-  pub on : (j : ℕ) → r ≡ Some j → (j < q) × ((segment_words work g j).unit.0 ≡ unit) × ((segment_words work g j).count ≡ count)
-  pub later : (i : ℕ) → word_of r ≤ i → i < q → (segment_words work g i).unit.0 ≡ unit → (segment_words work g i).count ≡ count → ⊥
+-- the last of the first q new segments of a unit and a run length is r; or there is none
+abbrev pub MadeIs : List ℕ → Layout → ℕ → ℕ → ℕ → Option ℕ → Type 0
+MadeIs work g q unit count r = Last (OfRun work g unit count) q r

@@ -1,4 +1,3 @@
 -- What the contracts of new segments say.
 pub mod Chains
 pub mod Makes
-pub mod ChainsLeft

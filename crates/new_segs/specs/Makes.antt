@@ -5,7 +5,6 @@ use Rattle.gfa_spec.specs.Decimal.{largest64}
 use Rattle.gfa_spec.specs.Reading.{Segment}
 use Rattle.gfa_spec.specs.Runs.{Run}
 use Rattle.normalize_spec.specs.Folding.{Made, none_made, next_after, usable, new_id, new_segment, make_segment}
-use Rattle.work.specs.Rows.{word_of, number_in}
 use Rattle.tables.specs.declared.tables.Bases.{Bases}
 use Rattle.tables.specs.declared.tables.Counts.{Counts}
 use Rattle.tables.specs.ByNumber.{segment_no, segments_of}
@@ -15,7 +14,7 @@ use Rattle.normalize_tables.specs.Layout.{Source}
 use Rattle.normalize_tables.specs.News.{segment_words, first_number, new_id_of, new_at, news_at, names_at, Agree, Suffixed}
 use Rattle.normalize_tables.specs.NewByNumber.{SegmentRoom, SegmentRows, KeptTo, StepsKept, PathsKept}
 use Rattle.new_ids.specs.Ids.{SuffixIs}
-use Rattle.new_segs.specs.Chains.{LastOn, Chained, MadeIs}
+use Rattle.new_segs.specs.Chains.{UnitsSlotted, MadeIs}
 
 -- ---- what was made
 
@@ -29,8 +28,8 @@ unfoldable pub made_at : List Segment → List ℕ → List ℕ → Bases → La
 made_at ss text work b g first q = record { new = news_at text work b g first q; next = next_at ss q }
 
 -- What holds of a table of q new segments: its rows may be relied on, each name has the first suffix that was free, no two are of one unit
--- and one run length, and those on a unit are a chain. Asked where a chain begins and where a new segment's row is made; `News`, by which both read,
--- holds less, and so do others that read by it.
+-- and one run length, and each is in the slot of its unit. Asked where one is sought and where a new segment's row is made; `News`, by which both
+-- read, holds less, and so do others that read by it.
 pub record Making (text work : List ℕ) (b : Bases) (n : Counts) (g : Layout) (first q : ℕ) : Type 0 where
   pub source : Source text work b n g
   pub first_is : first ≡ first_number (segments_of text work b n)
@@ -38,8 +37,7 @@ pub record Making (text work : List ℕ) (b : Bases) (n : Counts) (g : Layout) (
   pub rows : SegmentRows work n g q
   pub suffixed : Suffixed text work b n g first q
   pub alone : (i j : ℕ) → i < j → j < q → (segment_words work g i).unit.0 ≡ (segment_words work g j).unit.0 → (segment_words work g i).count ≡ (segment_words work g j).count → ⊥
-  pub lasts : (k : ℕ) → k < n.segs → LastOn work g k q (number_in (get_or work (g.last + k) 0))
-  pub chained : Chained work g q
+  pub slotted : UnitsSlotted work n g q
 
 -- ---- one more
 
@@ -63,10 +61,8 @@ pub record RowFor (text work : List ℕ) (b : Bases) (n : Counts) (g : Layout) (
   pub of_unit : r.unit.0 ≡ unit
   pub of_count : r.count ≡ count
   pub of_suffix : SuffixFor text work b n g first q unit count r.suffix
-  pub of_last : r.before ≡ number_in (get_or work (g.last + unit) 0)
   pub room : SegmentRoom work g (q + 1)
-  pub small : (r.count < 4294967296) × (r.suffix < 4294967296) × (word_of r.before < 4294967296) × (q + 1 < 4294967296)
-  pub last : g.last + unit < length work
+  pub small : (r.count < 4294967296) × (r.suffix < 4294967296) × (q + 1 < 4294967296)
 
 -- The words below the table of last new segments, the rows of the first p new paths and of the first t new steps, and the words behind all of
 -- these tables are kept.

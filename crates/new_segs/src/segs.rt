@@ -3,13 +3,11 @@ ghost use Rattle.std.specs.Prelude.{◌≤◌, ◌<◌};
 ghost use Rattle.new_segs.specs.Makes.{Making, SuffixFor, Wanted, RowFor, SegmentMade};
 ghost use Rattle.normalize_tables.specs.News.{first_of};
 
-use crate::chains::put_last;
 use new_ids::ids::free_suffix;
 use new_ids::rows::new_number;
 use normalize_tables::layout::Area;
 use normalize_tables::news::News;
-use normalize_tables::rows::{NewSegmentWords, UnitRun, put_new_segment};
-use work::work::number_at;
+use normalize_tables::rows::{NewSegmentWords, UnitRun, put_new_segment, unit_slots};
 
 // The suffix of the next new segment: 0 where its ID is a number, else the first that is free.
 #[tactic(auto, using(crate::proofs::NextIds::suffixing))]
@@ -32,17 +30,17 @@ pub fn new_row(news: &News, run: UnitRun) -> NewSegmentWords
         unit: run.unit,
         count: run.count,
         suffix: new_suffix(news, run),
-        before: number_at(news.work, news.a.g.last + run.unit.0 as usize),
     }
 }
 
-// Makes it: its row is put behind the others, and it is the last on its unit.
+// Makes it: its row is put behind the others, and into the slot of its unit.
 pub fn make_segment(text: &[u8], work: &mut [u32], a: Area, run: UnitRun)
     requires { Wanted text.now work.old a.b a.n a.g (first_of a.m.first) a.m.segs run.unit.0 run.count }
     ensures { SegmentMade text.now work.old work.new a.b a.n a.g (first_of a.m.first) a.m.segs run.unit.0 run.count }
 {
     let news = News { text, work, a };
     let row = new_row(&news, run);
+    let slots = unit_slots(a.n, a.g);
     put_new_segment(work, a.g, a.m.segs, row);
-    put_last(work, a.g, run.unit, a.m.segs);
+    slots.add(work, run.unit.0 as usize, a.m.segs);
 }

@@ -14,7 +14,7 @@ use Rattle.scan.proofs.Orientations.{eq_signs}
 use Rattle.scan.specs.declared.orientation.Orientation.{Orientation}
 use Rattle.scan.specs.Orientations.{sign_of}
 use Rattle.work.specs.Rows.{rows_at, span, Only}
-use Rattle.work.proofs.Rows.{KeptWords, only_then, only_kept, outside_less, rows_snoc, rows_length}
+use Rattle.work.proofs.Rows.{KeptWords, only_then, only_kept, kept_within, outside_less, rows_snoc, rows_length}
 use Rattle.work.proofs.RowCuts.{rows_split, rows_all, rows_cons, rows_none}
 use Rattle.tables.specs.declared.tables.Bases.{Bases}
 use Rattle.tables.specs.declared.tables.Counts.{Counts}
@@ -62,12 +62,15 @@ ends_stand {w} {w'} {from} {to} g j o h =
 -- ---- rows that are kept
 
 -- by their words
+pub segment_kept : {w w' : List ℕ} (g : Layout) (j : ℕ) → KeptWords (g.segs + 4 * j) (g.segs + 4 * j + 3) w w' → segment_words w' g j ≡ segment_words w g j
+segment_kept g j k =
+    let at = g.segs + 4 * j in rw (k.word at (omega arith) (omega arith), k.word (at + 1) (omega arith) (omega arith), k.word (at + 2) (omega arith) (omega arith))
+
 pub segments_words : {w w' : List ℕ} (g : Layout) (q : ℕ) → KeptWords g.segs (g.segs + 4 * q) w w' → SegmentsKept g q w w'
 segments_words g q k =
     record {
-      row = λ j h.
-          let at = g.segs + 4 * j in
-          rw (k.word at (omega arith) (omega arith), k.word (at + 1) (omega arith) (omega arith), k.word (at + 2) (omega arith) (omega arith), k.word (at + 3) (omega arith) (omega arith));
+      row = λ j h. segment_kept g j (kept_within (g.segs + 4 * j) (g.segs + 4 * j + 3) k (omega arith) (omega arith));
+      next = λ j h. k.word (g.segs + 3 + 4 * j) (omega arith) (omega arith);
     }
 
 pub steps_words : {w w' : List ℕ} (g : Layout) (t : ℕ) → KeptWords g.steps (g.steps + 2 * t) w w' → StepsKept g t w w'
@@ -88,9 +91,6 @@ module _ {w w' : List ℕ} (g : Layout) {q : ℕ} (k : SegmentsKept g q w w') (j
 
   pub suffix_kept : (segment_words w' g j).suffix ≡ (segment_words w g j).suffix
   suffix_kept = ap (λ x. x.suffix) (k.row j h)
-
-  pub before_kept : (segment_words w' g j).before ≡ (segment_words w g j).before
-  before_kept = ap (λ x. x.before) (k.row j h)
 
 module _ {w w' : List ℕ} (g : Layout) {t : ℕ} (k : StepsKept g t w w') (i : ℕ) (h : i < t) where
   pub node_kept : (step_words w' g i).node ≡ (step_words w g i).node

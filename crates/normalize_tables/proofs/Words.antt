@@ -15,8 +15,8 @@ use Rattle.normalize_tables.specs.NewByNumber.{ends_no}
 
 -- a new segment, by its words
 pub segment_told : (work : List ℕ) (g : Layout) (j : ℕ) (r : NewSegmentWords) → get_or work (g.segs + 4 * j) 0 ≡ r.unit.0 → get_or work (g.segs + 4 * j + 1) 0 ≡ r.count
-    → get_or work (g.segs + 4 * j + 2) 0 ≡ r.suffix → get_or work (g.segs + 4 * j + 3) 0 ≡ word_of r.before → segment_words work g j ≡ r
-segment_told work g j r u c s b = rw (u, c, s, b, number_word r.before)
+    → get_or work (g.segs + 4 * j + 2) 0 ≡ r.suffix → segment_words work g j ≡ r
+segment_told work g j r u c s = rw (u, c, s)
 
 -- the ends of a link, by its words
 pub ends_told : (work : List ℕ) (g : Layout) (i : ℕ) (r : Ends) → get_or work (g.ends + 3 * i) 0 ≡ word_of r.from → get_or work (g.ends + 3 * i + 1) 0 ≡ word_of r.to

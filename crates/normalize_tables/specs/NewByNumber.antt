@@ -7,6 +7,7 @@ use Rattle.scan.specs.Orientations.{sign_of}
 use Rattle.gfa_spec.specs.Runs.{bit}
 use Rattle.std.proofs.lemmas.List.Edits.{sets}
 use Rattle.work.specs.Rows.{EachRow, Range, span, Only, word_of, number_in}
+use Rattle.slots.specs.declared.slots.Slots.{Slots}
 use Rattle.tables.specs.declared.path_steps.Steps.{Steps}
 use Rattle.tables.specs.declared.tables.Bases.{Bases}
 use Rattle.tables.specs.declared.tables.Counts.{Counts}
@@ -37,6 +38,10 @@ new_paths_to names work g p = new_paths_at names g.steps work g.paths p
 -- the new paths from path p on
 abbrev pub new_paths_from : List (List ℕ) → List ℕ → Counts → Layout → ℕ → List (List NewStep)
 new_paths_from names work n g p = new_paths_at names g.steps work (g.paths + 2 * p) (n.paths - p)
+
+-- the slots of new segments, one for each segment of the text, their unit; a new segment's own word is the last of its row
+abbrev pub unit_slots : Counts → Layout → Slots
+unit_slots n g = record { heads = g.last; count = n.segs; nexts = g.segs + 3; stride = 4 }
 
 -- what the three words of link i say: the nodes at its ends, and 1 where it is removed
 abbrev pub ends_no : List ℕ → Layout → ℕ → Ends
@@ -188,9 +193,10 @@ pub record EndsPut (before work : List ℕ) (g : Layout) (i : ℕ) (r : Ends) : 
 pub record KeptTo (hi : ℕ) (before work : List ℕ) : Type 0 where
   pub word : (i : ℕ) → i < hi → get_or work i 0 ≡ get_or before i 0
 
--- So are the rows of the first q new segments, of the first t new steps, of the first p new paths.
+-- So are the rows of the first q new segments, with their words of the slots, of the first t new steps, of the first p new paths.
 pub record SegmentsKept (g : Layout) (q : ℕ) (before work : List ℕ) : Type 0 where
   pub row : (j : ℕ) → j < q → segment_words work g j ≡ segment_words before g j
+  pub next : (j : ℕ) → j < q → get_or work (g.segs + 3 + 4 * j) 0 ≡ get_or before (g.segs + 3 + 4 * j) 0
 
 pub record StepsKept (g : Layout) (t : ℕ) (before work : List ℕ) : Type 0 where
   pub row : (k : ℕ) → k < t → step_words work g k ≡ step_words before g k

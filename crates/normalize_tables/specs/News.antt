@@ -7,7 +7,7 @@ use Rattle.gfa_spec.specs.Reading.{Segment, is_orientation}
 use Rattle.normalize_spec.specs.Folding.{New, NewStep, sanitized, taken, none_made}
 use Rattle.normalize_spec.specs.Links.{Key}
 use Rattle.normalize_spec.specs.NewNames.{new_name}
-use Rattle.work.specs.Rows.{rows_at, number_in}
+use Rattle.work.specs.Rows.{rows_at}
 use Rattle.tables.specs.declared.tables.Bases.{Bases}
 use Rattle.tables.specs.declared.tables.Counts.{Counts}
 use Rattle.tables.specs.ByNumber.{segment_no, segments_of}
@@ -33,7 +33,6 @@ segment_words work g j =
       unit = record { 0 = get_or work (g.segs + 4 * j) 0 };
       count = get_or work (g.segs + 4 * j + 1) 0;
       suffix = get_or work (g.segs + 4 * j + 2) 0;
-      before = number_in (get_or work (g.segs + 4 * j + 3) 0);
     }
 
 abbrev pub step_words : List ℕ → Layout → ℕ → StepEntry
@@ -67,7 +66,7 @@ new_of text work b first j r =
       sequence = repeat r.count (segment_no text work b r.unit.0).sequence;
     }
 
--- new segment j: its unit's number, the run length, the suffix of its name, and the new segment before it on that unit, if there is one
+-- new segment j, by its words
 unfoldable pub new_at : List ℕ → Bases → Layout → ℕ → List ℕ → ℕ → New
 new_at text b g first work j = new_of text work b first j (segment_words work g j)
 

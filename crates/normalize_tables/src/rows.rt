@@ -4,13 +4,15 @@
 ghost use Rattle.std.specs.Prelude.{◌≡◌, ◌+◌, ◌≤◌, ◌<◌, eqb, length, get_or};
 ghost use Rattle.work.specs.Rows.{word_of};
 ghost use Rattle.normalize_tables.specs.News.{first_of};
-ghost use Rattle.normalize_tables.specs.NewByNumber.{NewSegmentThere, NewSegmentIs, NewStepThere, NewStepIs, NewPathThere, NewPathIs, ends_no, SegmentRoom, StepRoom, PathRoom, EndsRoom, NewSegmentPut, NewStepPut, NewPathPut, EndsPut};
+ghost use Rattle.normalize_tables.specs.NewByNumber.{NewSegmentThere, NewSegmentIs, NewStepThere, NewStepIs, NewPathThere, NewPathIs, ends_no, SegmentRoom, StepRoom, PathRoom, EndsRoom, NewSegmentPut, NewStepPut, NewPathPut, EndsPut, unit_slots};
 
 use crate::layout::{Area, Layout};
 use scan::orientation::Orientation;
+use slots::slots::Slots;
 use tables::entry::{LinkNo, PathNo, SegmentNo};
 use tables::graph::orientation_at;
 use tables::path_steps::Steps;
+use tables::tables::Counts;
 use work::work::{number_at, put_row, word, word_of};
 
 // A run on a segment: the segment, and how many equal steps the run has.
@@ -20,13 +22,12 @@ pub struct UnitRun {
     pub count: usize,
 }
 
-// A new segment's row: its unit, the run length, the suffix of its name, and the new segment before it on that unit, if there is one.
+// A new segment's row: its unit, the run length, and the suffix of its name.
 #[derive(Clone, Copy)]
 pub struct NewSegmentWords {
     pub unit: SegmentNo,
     pub count: usize,
     pub suffix: usize,
-    pub before: Option<usize>,
 }
 
 // A new step's row: the number of its node, and its orientation.
@@ -52,6 +53,19 @@ pub fn is_marked(work: &[u32], at: usize) -> bool
     work[at] == 1
 }
 
+// The slots of new segments, one for each segment of the text, their unit: a new segment's own word is the last of its row.
+pub fn unit_slots(n: Counts, g: Layout) -> Slots
+    requires { g.segs + 3 < 4611686018427387904 }
+    ensures { result ≡ unit_slots n g }
+{
+    Slots {
+        heads: g.last,
+        count: n.segs,
+        nexts: g.segs + 3,
+        stride: 4,
+    }
+}
+
 // New segment `j`.
 #[tactic(auto, unfolding(crate::specs::News::new_at))]
 pub fn new_segment_at(text: &[u8], work: &[u32], a: Area, j: usize) -> NewSegmentWords
@@ -64,7 +78,6 @@ pub fn new_segment_at(text: &[u8], work: &[u32], a: Area, j: usize) -> NewSegmen
         unit: SegmentNo(unit),
         count: word(work, at + 1),
         suffix: word(work, at + 2),
-        before: number_at(work, at + 3),
     }
 }
 
@@ -111,15 +124,11 @@ pub fn ends_at(work: &[u32], a: Area, i: LinkNo) -> Ends
 
 // Puts the row of new segment `j`.
 pub fn put_new_segment(work: &mut [u32], g: Layout, j: usize, r: NewSegmentWords)
-    requires { SegmentRoom work.old g (j + 1) × (r.count < 4294967296) × (r.suffix < 4294967296) × (word_of r.before < 4294967296) }
+    requires { SegmentRoom work.old g (j + 1) × (r.count < 4294967296) × (r.suffix < 4294967296) }
     ensures { NewSegmentPut work.old work.new g j r }
 {
     let unit = r.unit.0 as usize;
-    put_row(
-        work,
-        g.segs + 4 * j,
-        &[unit, r.count, r.suffix, word_of(r.before)],
-    );
+    put_row(work, g.segs + 4 * j, &[unit, r.count, r.suffix]);
 }
 
 // Puts the row of new step `k`.

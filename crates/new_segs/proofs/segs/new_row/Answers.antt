@@ -3,4 +3,4 @@ use Rattle.new_segs.proofs.Adding.{row_for}
 use Rattle.new_segs.proofs.segs.new_row.Goals as goal
 
 pub returns : goal.returns
-returns c = row_for c.requires c.new_suffix.ensures c.number_at.ensures
+returns c = row_for c.requires c.new_suffix.ensures

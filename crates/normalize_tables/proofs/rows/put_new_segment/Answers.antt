@@ -1,4 +1,4 @@
--- `normalize_tables::rows::put_new_segment` meets its contract: the four words say the row.
+-- `normalize_tables::rows::put_new_segment` meets its contract: the three words say the row.
 use Rattle.std.proofs.Common.{rules}
 use Rattle.normalize_tables.proofs.Words.{segment_told}
 use Rattle.normalize_tables.proofs.rows.put_new_segment.Goals as goal
@@ -6,7 +6,7 @@ use Rattle.normalize_tables.proofs.rows.put_new_segment.Goals as goal
 pub returns : goal.returns
 returns c =
     record {
-      words = segment_told c.put_row.new.work c.args.g c.args.j c.args.r (search rules) (search rules) (search rules) (search rules);
+      words = segment_told c.put_row.new.work c.args.g c.args.j c.args.r (search rules) (search rules) (search rules);
       long = search rules;
       only = search rules;
     }
