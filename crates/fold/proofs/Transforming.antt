@@ -18,9 +18,9 @@ use Rattle.normalize_spec.specs.Folding.{AllTransformed, is_folded_run, transfor
 use Rattle.normalize_spec.specs.Counting.{folded_runs}
 use Rattle.normalize_spec.proofs.Marks.{kept_run}
 use Rattle.normalize_spec.proofs.Onward.{before_paths, paths_start, paths_end}
-use Rattle.work.specs.Rows.{rows_at, Cleared}
+use Rattle.work.specs.Rows.{rows_at}
 use Rattle.work.proofs.Rows.{each_none}
-use Rattle.slots.proofs.Slotting.{slots_cleared}
+use Rattle.slots.specs.Slots.{SlotsCleared}
 use Rattle.tables.specs.declared.tables.Bases.{Bases}
 use Rattle.tables.specs.declared.tables.Counts.{Counts}
 use Rattle.tables.specs.Segments.{ids_of}
@@ -60,7 +60,7 @@ marks_fold {text} {w} {b} {n} {g} p s k = record { segs = refl; marks = marks }
 
 -- ---- before the first path
 
-module _ {text before first : List ℕ} {b : Bases} {n : Counts} {g : Layout} (s : Source text before b n g) (c : Cleared before first g.last n.segs) where
+module _ {text before first : List ℕ} {b : Bases} {n : Counts} {g : Layout} (s : Source text before b n g) (c : SlotsCleared before first (unit_slots n g)) where
   cleared_low : KeptTo g.last before first
   cleared_low = record { word = λ i h. c.only.word i (inl h, tt) }
 
@@ -81,7 +81,7 @@ module _ {text before first : List ℕ} {b : Bases} {n : Counts} {g : Layout} (s
         rows = each_none;
         suffixed = record { taken = λ j i h. absurd (omega arith); rising = λ i j h l. absurd (omega arith) };
         alone = λ i j h l. absurd (omega arith);
-        slotted = (slots_cleared {s = unit_slots n g} (omega (arith, s.placed)) c).slotted (λ j. (segment_words first g j).unit.0);
+        slotted = c.slotted (λ j. (segment_words first g j).unit.0);
       }
 
   pub passing_start : {f : Option ℕ} → AllKnown text before b n → f ≡ (none_made (segments_of text first b n)).next
@@ -154,7 +154,7 @@ module _ {text first work : List ℕ} {b : Bases} {n : Counts} {g : Layout} {m :
       }
 
   -- the whole
-  pub transform_is : {before : List ℕ} → Source text before b n g → Cleared before first g.last n.segs → TransformIs text before work b n g m
+  pub transform_is : {before : List ℕ} → Source text before b n g → SlotsCleared before first (unit_slots n g) → TransformIs text before work b n g m
   transform_is {before} o c =
       record {
         folds = λ t k. passing_end (keep t (segments_of text before b n)) (rw (low_stands o (cleared_low o c)).of_segments (folds_kept o (cleared_low o c) (marks_fold t o k)));

@@ -9,12 +9,11 @@ use crate::turns::turn_run;
 use new_ids::ids::first_number;
 use normalize_tables::layout::{Area, Made};
 use normalize_tables::normalizer::Normalizer;
-use normalize_tables::rows::put_new_path;
+use normalize_tables::rows::{put_new_path, unit_slots};
 use runs::runs::run_from;
 use tables::entry::PathNo;
 use tables::graph::Graph;
 use tables::path_steps::Steps;
-use work::work::clear_words;
 
 // Turns the runs of a path's steps.
 pub fn transform_path_steps(paths: &mut Folding, steps: Steps)
@@ -75,7 +74,8 @@ pub fn transform(tables: &mut Normalizer) -> Made
 {
     let Normalizer { text, b, n, g, .. } = *tables;
     let work = &mut *tables.work;
-    clear_words(work, g.last, n.segs);
+    let slots = unit_slots(n, g);
+    slots.clear(work);
     let graph = Graph { text, work, b, n };
     let first = first_number(&graph);
     let mut m = Made {

@@ -1,6 +1,6 @@
 // Rows of the normalizer's tables by their numbers: the words of a row come back by name, in a struct. What stands above this crate knows
-// neither where a row is nor how wide it is, but for three tables of one word a row: the marks of segments, 1 where a segment is marked, the last new
-// segment on each, and the added links.
+// neither where a row is nor how wide it is, but for two tables of one word a row: the marks of segments, 1 where a segment is marked, and the added
+// links.
 ghost use Rattle.std.specs.Prelude.{◌≡◌, ◌+◌, ◌≤◌, ◌<◌, eqb, length, get_or};
 ghost use Rattle.work.specs.Rows.{word_of};
 ghost use Rattle.normalize_tables.specs.News.{first_of};

@@ -6,10 +6,10 @@ use Rattle.fold.proofs.Foldings.{path_given}
 use Rattle.fold.proofs.paths.transform.Goals as goal
 
 pub invariant_of-graph : goal.invariant_of-graph
-invariant_of-graph c = record { readable = cleared_readable c.args.tables.now.source c.clear_words.ensures }
+invariant_of-graph c = record { readable = cleared_readable c.args.tables.now.source (rw c.unit_slots-slots.ensures at c.clear.ensures) }
 
 pub loop-p-init : goal.loop-p-init
-loop-p-init c = search passing_start
+loop-p-init c = passing_start c.args.tables.now.source (rw c.unit_slots-slots.ensures at c.clear.ensures) c.requires c.first_number-first.ensures
 
 pub invariant_of-paths : goal.invariant_of-paths
 invariant_of-paths c = record { stage = c.loop-p.invariant.stage }
@@ -21,4 +21,4 @@ pub loop-p-preserved : goal.loop-p-preserved
 loop-p-preserved c = path_given c.loop-p.invariant c.loop-p-test.true c.transform_path.ensures.next (search rules)
 
 pub returns : goal.returns
-returns c = record { same = record { text = refl; loan = refl; bases = refl; counts = refl; layout = refl }; transformed = search transform_is }
+returns c = record { same = record { text = refl; loan = refl; bases = refl; counts = refl; layout = refl }; transformed = transform_is c.loop-p.invariant c.loop-p-test.false c.args.tables.now.source (rw c.unit_slots-slots.ensures at c.clear.ensures) }
