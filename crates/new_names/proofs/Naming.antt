@@ -97,7 +97,8 @@ module _ {before after : Writer} {out now : List ℕ} {room : ℕ} (s : Starts o
       front = rw (written (omega arith) k started) (take_at p (drop (length p) out) after.at (omega (arith, started.place)))
 
   -- a number
-  pub same_number : (q : List ℕ) {r : Bool} {n : ℕ} → r ≡ same (take after.at now) q → 20 ≤ room → n ≤ 18446744073709551615 → Puts before (decimal n) after → r ≡ same (decimal n) q
+  pub same_number : (q : List ℕ) {r : Bool} {n : ℕ} → r ≡ same (take after.at now) q → 20 ≤ room → n ≤ 18446744073709551615 → Puts before (decimal n) after
+      → r ≡ same (decimal n) q
   same_number q h k l w = h ∙ ap (λ x. same x q) (front_is w (omega (arith, decimal_short _ l)))
 
   -- what stands in a name behind the unit's

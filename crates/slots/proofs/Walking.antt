@@ -50,8 +50,8 @@ pub record Seeking (row_slot : ℕ → ℕ) (P : ℕ → Type 0) (work : List �
   pub later : (i : ℕ) → word_of it.last ≤ i → i < n → P i → ⊥
 
 module _ {row_slot : ℕ → ℕ} {P : ℕ → Type 0} {work : List ℕ} {s : Slots} {n slot : ℕ} where
-  pub seek_start : {of it : SlotRows} → Slotted row_slot work s n → ((i : ℕ) → i < n → P i → row_slot i ≡ slot) → slot < s.count → RowsOf work s (head_at work s slot) of → it ≡ of
-      → Seeking row_slot P work s n slot it
+  pub seek_start : {of it : SlotRows} → Slotted row_slot work s n → ((i : ℕ) → i < n → P i → row_slot i ≡ slot) → slot < s.count
+      → RowsOf work s (head_at work s slot) of → it ≡ of → Seeking row_slot P work s n slot it
   seek_start {it = it} t a l o e =
       let r : RowsOf work s (head_at work s slot) it = rw e o in
       let last : Last (λ i. row_slot i ≡ slot) n it.last = rw r.its_last (t.heads slot l) in

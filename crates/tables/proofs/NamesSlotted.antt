@@ -31,7 +31,8 @@ id_is text work b k q =
 -- ---- what is kept
 
 -- where the rows of the segments and the words of the slots are
-pub names_slotted_kept : {w w' : List ℕ} (text : List ℕ) (b : Bases) (n : ℕ) → b.heads < b.links → length w' ≡ length w → KeptWords b.segs (b.segs + 7 * n) w w' → KeptWords b.heads b.links w w'
+pub names_slotted_kept : {w w' : List ℕ} (text : List ℕ) (b : Bases) (n : ℕ) → b.heads < b.links → length w' ≡ length w → KeptWords b.segs (b.segs + 7 * n) w w'
+    → KeptWords b.heads b.links w w'
     → NamesSlotted text w b n → NamesSlotted text w' b n
 names_slotted_kept {w} {w'} text b n some long rows heads s =
     record {
@@ -127,6 +128,9 @@ module _ {text w w1 : List ℕ} {b : Bases} {k : ℕ} {s : SegmentWords} (y : In
                 only_then (span (b.segs + 7 * k) (b.segs + 7 * k + 7) ∷ span b.heads b.links ∷ []) only1 a.only
                 (λ i o. (
                   (outside_less (b.segs + 7 * k) (b.segs + 7 * k + 6) o.0 (omega arith) (omega arith), tt),
-                  (outside_less b.heads (b.heads + (b.links - b.heads)) o.1.0 (omega arith) (omega (arith, y.heads)), (outside_less (b.segs + 6 + 7 * k) (b.segs + 6 + 7 * k + 1) o.0 (omega arith) (omega arith), tt)),
+                  (
+                    outside_less b.heads (b.heads + (b.links - b.heads)) o.1.0 (omega arith) (omega (arith, y.heads)),
+                    (outside_less (b.segs + 6 + 7 * k) (b.segs + 6 + 7 * k + 1) o.0 (omega arith) (omega arith), tt),
+                  ),
                 ));
           }

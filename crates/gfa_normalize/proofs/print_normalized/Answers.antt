@@ -7,4 +7,6 @@ pub returns-then-is_long : goal.returns-then-is_long
 returns-then-is_long c = prints_long _ _ c.is_long.ensures c.if-is_long.true c.refuse_long.ensures
 
 pub returns : goal.returns
-returns c = prints_limited _ _ c.is_long.ensures c.if-is_long.false (prints_answer _ _ (numbered _ _ _ _) c.normalize_self_loop_runs-result.ensures.answer c.normalize_self_loop_runs-result.ensures.output c.show.ensures)
+returns c =
+    prints_limited _ _ c.is_long.ensures c.if-is_long.false
+    (prints_answer _ _ (numbered _ _ _ _) c.normalize_self_loop_runs-result.ensures.answer c.normalize_self_loop_runs-result.ensures.output c.show.ensures)

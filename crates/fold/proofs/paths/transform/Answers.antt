@@ -21,4 +21,8 @@ pub loop-p-preserved : goal.loop-p-preserved
 loop-p-preserved c = path_given c.loop-p.invariant c.loop-p-test.true c.transform_path.ensures.next (search rules)
 
 pub returns : goal.returns
-returns c = record { same = record { text = refl; loan = refl; bases = refl; counts = refl; layout = refl }; transformed = transform_is c.loop-p.invariant c.loop-p-test.false c.args.tables.now.source (rw c.unit_slots-slots.ensures at c.clear.ensures) }
+returns c =
+    record {
+      same = record { text = refl; loan = refl; bases = refl; counts = refl; layout = refl };
+      transformed = transform_is c.loop-p.invariant c.loop-p-test.false c.args.tables.now.source (rw c.unit_slots-slots.ensures at c.clear.ensures);
+    }

@@ -1,7 +1,7 @@
 -- `lines::links::add_link` meets its contract. Assumes nothing.
 use mathlib.Core.Path.{refl}
 use Rattle.std.proofs.lemmas.Result.{err_from_is_err_and}
-use Rattle.lines.proofs.Adding.{l_refused, l_added}
+use Rattle.lines.proofs.AddedLinks.{l_refused, l_added}
 use Rattle.lines.proofs.NewLines.{same_none, ready_link}
 use Rattle.lines.proofs.links.add_link.Goals as goal
 

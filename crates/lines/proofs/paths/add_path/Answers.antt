@@ -3,7 +3,7 @@ use Prim.Native.Nat.{◌+◌}
 use native.Mathlib.Omega.{arith}
 use Rattle.std.proofs.lemmas.Result.{err_from_is_err_and}
 use Rattle.tables.specs.declared.rows.PathWords.{PathWords}
-use Rattle.lines.proofs.Adding.{p_refused, p_added}
+use Rattle.lines.proofs.AddedPaths.{p_refused, p_added}
 use Rattle.lines.proofs.NewLines.{ready_path}
 use Rattle.lines.proofs.paths.add_path.Goals as goal
 

@@ -1,7 +1,7 @@
 -- `lines::paths::path_steps` meets its contract. Assumes nothing.
 use mathlib.Core.Path.{refl}
 use borrow.Author.Rules.{rules}
-use Rattle.lines.proofs.Adding.{path_missing, steps_room, path_told}
+use Rattle.lines.proofs.AddedPaths.{path_missing, steps_room, path_told}
 use Rattle.lines.proofs.NewLines.{same_none, ready_steps}
 use Rattle.lines.proofs.paths.path_steps.Goals as goal
 

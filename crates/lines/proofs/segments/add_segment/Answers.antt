@@ -3,7 +3,7 @@ use mathlib.Core.Path.{refl}
 use Rattle.std.proofs.lemmas.Result.{err_from_is_err_and}
 use Rattle.std.proofs.Common.{sym, ◌∙◌}
 use Rattle.gfa_spec.proofs.Options.{none_is, some_is}
-use Rattle.lines.proofs.Adding.{s_short, s_known, s_insertable, s_added}
+use Rattle.lines.proofs.AddedSegments.{s_short, s_known, s_insertable, s_added}
 use Rattle.lines.proofs.NewLines.{same_none, ready_segment}
 use Rattle.lines.proofs.segments.add_segment.Goals as goal
 

@@ -1,5 +1,5 @@
 -- `reader::reading::read_line` meets its contract. Assumes nothing.
-use Rattle.lines.proofs.Adding.{line_entered}
+use Rattle.lines.proofs.Entering.{line_entered}
 use Rattle.lines.proofs.NewLines.{ready_entry}
 use Rattle.reader.proofs.reading.read_line.Goals as goal
 
