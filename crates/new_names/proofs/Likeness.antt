@@ -4,11 +4,15 @@ use native.Mathlib.Omega.{arith}
 use mathlib.Core.Bool.{Bool, true, false, cond}
 use mathlib.Core.List.{List}
 use mathlib.Core.Path.{◌≡◌, sym, ap, ◌∙◌}
-use lib.ListN.{length, get_or}
-use Rattle.gfa_spec.specs.Bytes.{same, AgreeFrom}
+use lib.ListN.{length, get_or, take}
+use lib.Seq.{get_or-take, length-take-le}
+use Rattle.std.specs.Prelude.{Option, None, Some}
+use Rattle.gfa_spec.specs.Bytes.{same, AgreeFrom, LastAt}
 use Rattle.gfa_spec.proofs.Comparing.{same_length, agree_back, agree_all, same_differ}
+use Rattle.gfa_spec.proofs.Parts.{by_order}
 use Rattle.gfa_spec.proofs.Tests.{equal_same, same_equal, same_sym, refute, clash}
 use Rattle.normalize_spec.specs.Folding.{is_plain, sanitized}
+use Rattle.scan.specs.Differences.{DifferenceIs}
 use Rattle.new_names.proofs.Sanitizing.{length_sanitized, get_or_sanitized, sanitized_twice}
 
 -- ---- the names, sanitized
@@ -16,6 +20,7 @@ use Rattle.new_names.proofs.Sanitizing.{length_sanitized, get_or_sanitized, sani
 -- The state at `end`: from there on the names agree, sanitized.
 pub record Alike (xs ys : List ℕ) (end : ℕ) : Type 0 where
   pub long : length xs ≡ length ys
+  pub high : end ≤ length xs
   pub agree : AgreeFrom (sanitized xs) (sanitized ys) end
 
 -- names of other lengths
@@ -23,32 +28,64 @@ pub unlike_long : (xs ys : List ℕ) → (length xs ≡ length ys → ⊥) → f
 unlike_long xs ys n = sym (same_length _ _ (λ e. n (sym (length_sanitized xs) ∙ e ∙ length_sanitized ys)))
 
 pub alike_start : {xs ys : List ℕ} → length xs ≡ length ys → Alike xs ys (length xs)
-alike_start {xs} h = record { long = h; agree = record { bytes = λ k l m. absurd (omega (arith, length_sanitized xs)) } }
+alike_start {xs} h = record { long = h; high = omega arith; agree = record { bytes = λ k l m. absurd (omega (arith, length_sanitized xs)) } }
 
-pub alike_yes : {xs ys : List ℕ} → Alike xs ys 0 → true ≡ same (sanitized xs) (sanitized ys)
-alike_yes {xs} {ys} s = sym (equal_same _ _ (agree_all (length_sanitized xs ∙ s.long ∙ sym (length_sanitized ys)) s.agree))
+module _ {xs ys : List ℕ} {end : ℕ} (s : Alike xs ys end) where
+  -- the fronts are equally long
+  pub front_first : length (take end xs) ≡ end
+  front_first = length-take-le end xs s.high
 
--- the byte before those that agree
-module _ {xs ys : List ℕ} {j : ℕ} (s : Alike xs ys j) (h : 0 < j) (k : j ≤ length xs) where
-  -- what is equal is equal sanitized
-  pub alike_equal : get_or xs (j - 1) 0 ≡ get_or ys (j - 1) 0 → Alike xs ys (j - 1)
-  alike_equal e =
-      let first = get_or_sanitized xs (j - 1) (omega arith) in
-      let second = get_or_sanitized ys (j - 1) (omega (arith, s.long)) in
-      record { long = s.long; agree = agree_back (omega arith) s.agree (first ∙ ap (λ b. cond (is_plain b) b 95) e ∙ sym second) }
+  pub front_second : length (take end ys) ≡ end
+  front_second = length-take-le end ys (omega (arith, s.high, s.long))
 
-  module _ {a b : ℕ} (p : a ≡ cond (is_plain (get_or xs (j - 1) 0)) (get_or xs (j - 1) 0) 95) (q : b ≡ cond (is_plain (get_or ys (j - 1) 0)) (get_or ys (j - 1) 0) 95) where
-    first_byte : get_or (sanitized xs) (j - 1) 0 ≡ a
-    first_byte = get_or_sanitized xs (j - 1) (omega arith) ∙ sym p
+  pub fronts_long : length (take end xs) ≡ length (take end ys)
+  fronts_long = front_first ∙ sym front_second
 
-    second_byte : get_or (sanitized ys) (j - 1) 0 ≡ b
-    second_byte = get_or_sanitized ys (j - 1) (omega (arith, s.long)) ∙ sym q
+  -- where their fronts agree from byte i on, they agree so sanitized
+  on : {i : ℕ} → i ≤ end → AgreeFrom (take end xs) (take end ys) i → Alike xs ys i
+  on {i} h d =
+      record {
+        long = s.long;
+        high = omega (arith, s.high);
+        agree = record { bytes = λ k l m. by_order end k (λ g. s.agree.bytes k g m) (go k l) };
+      }
+    where
+      go : (k : ℕ) → i ≤ k → k < end → get_or (sanitized xs) k 0 ≡ get_or (sanitized ys) k 0
+      go k l g =
+          let front = d.bytes k l (omega (arith, front_first)) in
+          let raw = sym (get_or-take end xs k 0 g) ∙ front ∙ get_or-take end ys k 0 g in
+          get_or_sanitized xs k (omega (arith, s.high)) ∙ ap (λ b. cond (is_plain b) b 95) raw ∙ sym (get_or_sanitized ys k (omega (arith, s.high, s.long)))
 
-    pub alike_no : (a ≡ b → ⊥) → false ≡ same (sanitized xs) (sanitized ys)
-    alike_no o = sym (same_differ _ _ (j - 1) (λ t. o (sym first_byte ∙ t ∙ second_byte)))
+  -- their fronts differ nowhere
+  pub alike_yes : {d : Option ℕ} → DifferenceIs (take end xs) (take end ys) d → d ≡ None → true ≡ same (sanitized xs) (sanitized ys)
+  alike_yes is e =
+      let fronts : take end xs ≡ take end ys = rw e at is.says in
+      let none : AgreeFrom (take end xs) (take end ys) 0 = record { bytes = λ k l m. ap (λ zs. get_or zs k 0) fronts } in
+      let all = on (omega arith) none in
+      sym (equal_same _ _ (agree_all (length_sanitized xs ∙ s.long ∙ sym (length_sanitized ys)) all.agree))
 
-    pub alike_more : a ≡ b → Alike xs ys (j - 1)
-    alike_more t = record { long = s.long; agree = agree_back (omega arith) s.agree (first_byte ∙ t ∙ sym second_byte) }
+  -- they differ last at byte i
+  module _ {d : Option ℕ} {i : ℕ} (is : DifferenceIs (take end xs) (take end ys) d) (e : d ≡ Some i) where
+    last : LastAt (take end xs) (take end ys) i
+    last = rw e at is.says
+
+    pub alike_below : i < end
+    alike_below = rw front_first at last.inside
+
+    module _ {a b : ℕ} (p : a ≡ cond (is_plain (get_or xs i 0)) (get_or xs i 0) 95) (q : b ≡ cond (is_plain (get_or ys i 0)) (get_or ys i 0) 95) where
+      first_byte : get_or (sanitized xs) i 0 ≡ a
+      first_byte = get_or_sanitized xs i (omega (arith, alike_below, s.high)) ∙ sym p
+
+      second_byte : get_or (sanitized ys) i 0 ≡ b
+      second_byte = get_or_sanitized ys i (omega (arith, alike_below, s.high, s.long)) ∙ sym q
+
+      pub alike_no : (a ≡ b → ⊥) → false ≡ same (sanitized xs) (sanitized ys)
+      alike_no o = sym (same_differ _ _ i (λ t. o (sym first_byte ∙ t ∙ second_byte)))
+
+      pub alike_more : a ≡ b → Alike xs ys i
+      alike_more t =
+          let behind = on (omega (arith, alike_below)) last.behind in
+          record { long = s.long; high = omega (arith, alike_below, s.high); agree = agree_back (omega arith) behind.agree (first_byte ∙ t ∙ sym second_byte) }
 
 -- what the comparison goes on by
 pub ruleset comparing = (unlike_long, alike_start)

@@ -5,6 +5,7 @@ ghost use Rattle.gfa_spec.specs.Sums.{sum_from};
 ghost use Rattle.normalize_spec.specs.Folding.{is_plain, sanitized};
 ghost use Rattle.writers.specs.Writers.{Puts};
 
+use scan::names::last_difference;
 use slots::sums::stepped;
 use writers::writer::Writer;
 
@@ -43,7 +44,7 @@ pub fn sanitized_sum(h: u32, s: &[u8]) -> u32
     sum
 }
 
-// Are two names the same, sanitized? From their ends.
+// Are two names the same, sanitized? From their ends, by the bytes that differ (R-4). A `for` over all bytes would compare them anew.
 #[tactic(auto, using(crate::proofs::Likeness::comparing))]
 pub fn same_sanitized(s: &[u8], t: &[u8]) -> bool
     ensures { result ≡ same (sanitized s.now) (sanitized t.now) }
@@ -51,10 +52,12 @@ pub fn same_sanitized(s: &[u8], t: &[u8]) -> bool
     if s.len() != t.len() {
         return false;
     }
-    for i in (0..s.len()).rev() {
-        if s[i] != t[i] && plain_byte(s[i]) != plain_byte(t[i]) {
+    let mut end = s.len();
+    while let Some(i) = last_difference(&s[..end], &t[..end]) {
+        if plain_byte(s[i]) != plain_byte(t[i]) {
             return false;
         }
+        end = i;
     }
     true
 }
