@@ -190,6 +190,8 @@ pub record Front (first now : Writer) (whole rest : List ℕ) : Type 0 where
 -- The buckets of the numbers before number i are written.
 record Written (first : Writer) (work : List ℕ) (table nums m : ℕ) (now : Writer) (i : ℕ) : Type 0 where
   high : i ≤ m
+  same : now.out.ghost_name ≡ first.out.ghost_name
+  limit : now.limit ≡ first.limit
   front : (node : ℕ → Node) → Sized node work table → Rising (map node (nums_at work nums m)) →
       Front first now (ended (buckets (map node (nums_at work nums m)))) (ended (buckets (map node (nums_at work (nums + i) (m - i)))))
   rising : (node : ℕ → Node) → Rising (map node (nums_at work nums m)) → Rising (map node (nums_at work (nums + i) (m - i)))
@@ -207,6 +209,8 @@ module _ {first : Writer} {work : List ℕ} {table nums m : ℕ} where
       let c : m - 0 ≡ m = omega arith in
       record {
         high = omega arith;
+        same = refl;
+        limit = refl;
         front = λ node z r. record { piece = []; puts = puts_nothing; split = rw (a, c) };
         rising = λ node r. rw (a, c) r;
       }
@@ -219,6 +223,8 @@ module _ {first : Writer} {work : List ℕ} {table nums m : ℕ} where
     written_more {after} {r} q =
         record {
           high = q.high;
+          same = q.puts.same ∙ s.same;
+          limit = q.puts.limit ∙ s.limit;
           front = λ node z u. let f = s.front node z u in record { piece = f.piece ++ _; puts = f.puts ▷ q.puts; split = f.split ∙ rw (cut node z (s.rising node u), append_assoc) };
           rising = λ node u. rising_back (map node (nums_at work (nums + i) (r - i))) (map node (nums_at work (nums + r) (m - r))) (rw (halves node) at (s.rising node u));
         }
@@ -260,7 +266,11 @@ module _ {first : Writer} {work : List ℕ} {table nums m : ℕ} where
 
     written_end : m ≤ i → BucketsIs first work table nums m now
     written_end h =
-        record { puts = λ node z u. let f = s.front node z u in as_piece (sym (f.split ∙ rw (nums_none work nums i m h) (unfold buckets lengths ended join in append-nil f.piece))) f.puts }
+        record {
+          same = s.same;
+          limit = s.limit;
+          puts = λ node z u. let f = s.front node z u in as_piece (sym (f.split ∙ rw (nums_none work nums i m h) (unfold buckets lengths ended join in append-nil f.piece))) f.puts;
+        }
 
   module _ {now : Writer} {it it' : Groups} (s : Bucketing first work table nums m now it) where
     module _ {g : Group} (f : FirstGroup it g it') where
