@@ -13,12 +13,15 @@ fn product(n: usize, times: usize, limit: usize) -> usize
     n.saturating_mul(times).min(limit)
 }
 
-// The `n` bytes of `out` from `from` on, once more from `to` on: two places of one buffer, so no slices.
+// The `n` bytes of `out` from `from` on, once more from `to` on: two places of one buffer. A loop, for the library's copies would want `memmove`
+// of whoever links the archive.
 fn copy_on(out: &mut [u8], from: usize, to: usize, n: usize)
     requires { (from + n ≤ to) × (to + n ≤ length out.old) }
     ensures { out.new ≡ sets out.old to (part from n out.old) }
 {
-    out.copy_within(from..from + n, to);
+    for i in 0..n {
+        out[to + i] = out[from + i];
+    }
 }
 
 // A string `times` times over: it is written once, and what stands there is copied on until there is no more room or need. Each turn doubles
