@@ -54,7 +54,10 @@ impl<'a> Writer<'a> {
     pub fn put_byte(&mut self, b: u8)
         ensures { Puts self.old (b ∷ []) self.new }
     {
-        self.put(&[b]);
+        if self.at < self.out.len().min(self.limit) {
+            self.out[self.at] = b;
+        }
+        self.skip(1);
     }
 }
 
