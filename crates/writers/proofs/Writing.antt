@@ -9,7 +9,7 @@ use lib.Seq.{get_or-set_other, length-sets, length-take-le, paste, set_out, sets
 use borrow.Rule.Slice.PartMut.{put_mid}
 use Rattle.std.proofs.lemmas.Slice.{put_mid-paste}
 use Rattle.writers.specs.declared.writer.Writer.{Writer}
-use Rattle.writers.specs.Writers.{Wrote, Puts, Skips}
+use Rattle.writers.specs.Writers.{Wrote, StartsAt, Puts, Skips}
 use Rattle.gfa_spec.proofs.Parts.{by_order}
 
 infixl 30 ◌▷◌ ◌▶◌
@@ -166,6 +166,29 @@ puts_skipped {a} {b} {c} {piece} {i} {n} same limit at bytes fits long s =
   where
     place : min (b.at + n) b.limit ≡ min (a.at + length piece) a.limit
     place = rw (at, limit, long) refl
+
+-- a piece that a writer at any place put: past the limit nothing is written, and the place is the limit
+pub begun_at : {a b : Writer} {out piece : List ℕ} {at limit : ℕ} → StartsAt out at limit a → Puts a piece b → Wrote limit out at piece b.out.now b.at
+begun_at {a} {b} {out} {piece} {at} {limit} s p = by_order at limit within past
+  where
+    wrote : Wrote limit out (min at limit) piece b.out.now b.at
+    wrote = rw (s.limit, s.place, s.bytes) at p.wrote
+
+    within : at ≤ limit → Wrote limit out at piece b.out.now b.at
+    within h =
+        let here : min at limit ≡ at = omega arith in
+        rw here at wrote
+
+    past : limit < at → Wrote limit out at piece b.out.now b.at
+    past h =
+        let end : min at limit ≡ limit = omega arith in
+        let none : limit - limit ≡ 0 = omega arith in
+        let none_past : limit - at ≡ 0 = omega arith in
+        record { bytes = rw none_past (rw (end, none) at wrote.bytes); place = omega (arith, wrote.place) }
+
+-- and the buffer that comes back from it
+pub left_at : {a b : Writer} {out after piece : List ℕ} {at limit : ℕ} → StartsAt out at limit a → Puts a piece b → after ≡ b.out.now → Wrote limit out at piece after b.at
+left_at s p e = rw e (begun_at s p)
 
 -- nothing
 pub puts_nothing : {a : Writer} → Puts a [] a

@@ -18,6 +18,12 @@ pub record Starts (out : List ℕ) (room : ℕ) (w : Writer) : Type 0 where
   pub front : w.at ≡ 0
   pub limit : w.limit ≡ room
 
+-- A writer at any place of a buffer, or at the limit where the place is past it.
+pub record StartsAt (out : List ℕ) (at room : ℕ) (w : Writer) : Type 0 where
+  pub bytes : w.out.now ≡ out
+  pub place : w.at ≡ min at room
+  pub limit : w.limit ≡ room
+
 -- It puts a piece into its buffer, at its place.
 pub record Puts (before : Writer) (piece : List ℕ) (after : Writer) : Type 0 where
   pub same : after.out.ghost_name ≡ before.out.ghost_name

@@ -3,4 +3,5 @@
 
 pub mod numbers;
 pub mod pieces;
+pub mod placed;
 pub mod writer;

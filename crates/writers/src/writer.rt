@@ -13,14 +13,23 @@ pub struct Writer<'a> {
 }
 
 impl<'a> Writer<'a> {
-    ghost use Rattle.writers.specs.Writers.{Starts, Puts, Skips};
+    ghost use Rattle.writers.specs.Writers.{Starts, StartsAt, Puts, Skips};
+
+    // At any place of a buffer; where that is past the limit, at the limit.
+    pub fn at_place(out: &'a mut [u8], at: usize, limit: usize) -> Writer<'a>
+        ensures same { result.out.ghost_name ≡ out.entry.ghost_name }
+        ensures starts { StartsAt out.old at limit result }
+    {
+        let at = at.min(limit);
+        Writer { out, at, limit }
+    }
 
     // At the front of a buffer.
     pub fn new(out: &'a mut [u8], limit: usize) -> Writer<'a>
         ensures same { result.out.ghost_name ≡ out.entry.ghost_name }
         ensures starts { Starts out.old limit result }
     {
-        Writer { out, at: 0, limit }
+        Writer::at_place(out, 0, limit)
     }
 
     // All bytes of `s`.
