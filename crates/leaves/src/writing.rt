@@ -1,7 +1,6 @@
 // The leaves that write: into the front of the buffer they are lent, below a limit.
 use crate::reading::reading;
 use cases::headers::ARG;
-use scan::orientation::Orientation;
 use sequences::oriented::{put_oriented, put_reversed};
 use sequences::preview::put_preview;
 use sequences::repeated::put_repeated;
@@ -19,11 +18,7 @@ pub fn writing(name: &[u8], row: &[usize; 24], text: &[u8], out: &mut [u8]) -> [
     match name {
         b"put_preview" => put_preview(&mut w, text),
         b"put_reversed" => put_reversed(&mut w, text),
-        // A number that is no sign is read as forward.
-        b"put_oriented" if arg == usize::from(b'-') => {
-            put_oriented(&mut w, text, Orientation::Reverse)
-        }
-        b"put_oriented" => put_oriented(&mut w, text, Orientation::Forward),
+        b"put_oriented" => put_oriented(&mut w, text, arg),
         b"put_repeated" => put_repeated(&mut w, text, arg),
         b"put_decimal" => put_decimal(&mut w, arg as u64),
         b"put_number_line" => put_number_line(&mut w, text, arg as u64),

@@ -1,17 +1,15 @@
 -- Laws of sequences: reversed and complemented, read in an orientation; their preview. Assumes nothing.
 use Prim.Native.Nat.{ℕ, suc, ◌+◌, ◌-◌, ◌≤◌, ◌<◌}
 use native.Mathlib.Omega.{arith}
-use mathlib.Core.Path.{◌≡◌, ap, ◌∙◌}
+use mathlib.Core.Path.{◌≡◌, sym, ap, ◌∙◌}
 use mathlib.Core.List.{List, [], ◌∷◌, ◌++◌, reverse, reverse-cons}
 use lib.ListN.{length, get_or, take, length-map, length-reverse, get_or-map, get_or-append}
 use lib.Seq.{get_or_at}
-use borrow.Author.Tests.{le-leb, lt-leb}
+use borrow.Author.Tests.{eq-eqb, ne_eqb, le-leb, lt-leb}
 use Rattle.gfa_spec.specs.Bytes.{bytes, part}
-use Rattle.scan.specs.declared.orientation.Orientation.TheVariants.{Forward, Reverse}
-use Rattle.scan.specs.Orientations.{sign_of}
 use Rattle.writers.specs.declared.writer.Writer.{Writer}
 use Rattle.writers.specs.Writers.{Puts}
-use Rattle.writers.proofs.Writing.{◌▷◌}
+use Rattle.writers.proofs.Writing.{as_piece, ◌▷◌}
 use Rattle.gfa_spec.specs.Sequences.{complement, reverse_complement, oriented, sequence_preview}
 use Rattle.gfa_spec.proofs.Parts.{by_order, length_part}
 
@@ -45,14 +43,24 @@ pub get_or_reversed : (s : List ℕ) (i : ℕ) → i < length s → get_or (reve
 unfolding reverse_complement complement
 get_or_reversed s i h = get_or-map complement (reverse s) i 0 ∙ ap complement (get_or_reverse s i (length s - 1 - i) 0 (omega arith))
 
--- with - reversed and complemented, with + as it is
-pub puts_reverse : {a b : Writer} (s : List ℕ) → Puts a (reverse_complement complement s) b → Puts a (oriented complement (sign_of Reverse) s) b
-unfolding oriented
-puts_reverse s p = p
+-- ---- read in an orientation
 
-pub puts_forward : {a b : Writer} (s : List ℕ) → Puts a s b → Puts a (oriented complement (sign_of Forward) s) b
+-- with - (45) reversed and complemented
+pub oriented_back : (comp : ℕ → ℕ) (o : ℕ) (seq : List ℕ) → o ≡ 45 → oriented comp o seq ≡ reverse_complement comp seq
 unfolding oriented
-puts_forward s p = p
+oriented_back comp o seq h = rw (eq-eqb o 45 h)
+
+-- else as it is
+pub oriented_on : (comp : ℕ → ℕ) (o : ℕ) (seq : List ℕ) → (o ≡ 45 → ⊥) → oriented comp o seq ≡ seq
+unfolding oriented
+oriented_on comp o seq h = rw (ne_eqb o 45 h)
+
+module _ {a b : Writer} {o : ℕ} (s : List ℕ) where
+  pub puts_reverse : o ≡ 45 → Puts a (reverse_complement complement s) b → Puts a (oriented complement o s) b
+  puts_reverse h p = as_piece (sym (oriented_back complement o s h)) p
+
+  pub puts_forward : (o ≡ 45 → ⊥) → Puts a s b → Puts a (oriented complement o s) b
+  puts_forward h p = as_piece (sym (oriented_on complement o s h)) p
 
 -- ---- what the report says of a sequence
 

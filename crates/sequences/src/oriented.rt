@@ -1,10 +1,8 @@
 // A sequence as a step of either orientation spells it.
 ghost use Rattle.gfa_spec.specs.Sequences.{complement as complement_of, reverse_complement, oriented};
-ghost use Rattle.scan.specs.Orientations.{sign_of};
 ghost use Rattle.writers.specs.Writers.{Puts};
 
 use crate::complement::complement;
-use scan::orientation::Orientation;
 use writers::writer::Writer;
 
 // A sequence reversed, each byte complemented.
@@ -20,12 +18,13 @@ pub fn put_reversed(w: &mut Writer, s: &[u8])
     w.skip(s.len());
 }
 
-// A sequence as a step of this orientation spells it.
-pub fn put_oriented(w: &mut Writer, s: &[u8], orientation: Orientation)
-    ensures { Puts w.old (oriented complement_of (sign_of orientation) s.now) w.new }
+// A sequence as a step of this orientation spells it, by its sign: reversed for `-`, and for any other number as it is.
+pub fn put_oriented(w: &mut Writer, s: &[u8], mark: usize)
+    ensures { Puts w.old (oriented complement_of mark s.now) w.new }
 {
-    match orientation {
-        Orientation::Forward => w.put(s),
-        Orientation::Reverse => put_reversed(w, s),
+    if mark == b'-' as usize {
+        put_reversed(w, s);
+    } else {
+        w.put(s);
     }
 }

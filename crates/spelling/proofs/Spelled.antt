@@ -113,10 +113,10 @@ module _ {text work : List ℕ} {b : Bases} {n : Counts} {i : ℕ} {s : StepWord
       step_star z e = rw e (record { says = record { spells = rw (t.step, known, sym g ∙ z); inside = t.name; line = refl } })
 
       -- its sequence is put as it is oriented
-      pub step_put : {before after : Writer} → d ≡ false → Puts before (oriented complement (sign_of s.mark) (bytes_in text seq)) after → SpeltIs text before one_step after (Ok tt)
+      pub step_put : {before after : Writer} {mark : ℕ} → d ≡ false → Puts before (oriented complement mark (bytes_in text seq)) after → mark ≡ sign_of s.mark → SpeltIs text before one_step after (Ok tt)
       unfolding spell spell_step behind part_at
-      step_put z w =
-          record { says = record { bytes = oriented complement (sign_of s.mark) (bytes_in text seq); spells = rw (t.step, known, sym g ∙ z, append-nil); puts = w } }
+      step_put z w o =
+          record { says = record { bytes = oriented complement (sign_of s.mark) (bytes_in text seq); spells = rw (t.step, known, sym g ∙ z, append-nil); puts = rw o at w } }
 
 -- ---- a loop over the steps: a piece is put, and all steps spell that piece and then the rest
 

@@ -55,7 +55,7 @@ pub fn put_step(w: &mut Writer, graph: &Graph, i: usize) -> Result<(), Refusal>
     if is_star(sequence) {
         return Err(refused(Reason::StarSegment, step.name));
     }
-    put_oriented(w, sequence, step.mark);
+    put_oriented(w, sequence, step.mark.sign() as usize);
     Ok(())
 }
 

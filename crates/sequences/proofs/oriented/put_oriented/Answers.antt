@@ -2,8 +2,8 @@
 use Rattle.sequences.proofs.SequenceLaws.{puts_forward, puts_reverse}
 use Rattle.sequences.proofs.oriented.put_oriented.Goals as goal
 
-pub returns-in-Forward : goal.returns-in-Forward
-returns-in-Forward c = rw c.in-Forward.is (puts_forward c.args.s.now c.put.ensures)
+pub returns-then-mark : goal.returns-then-mark
+returns-then-mark c = puts_reverse c.args.s.now c.if-mark.true c.put_reversed.ensures
 
-pub returns-in-Reverse : goal.returns-in-Reverse
-returns-in-Reverse c = rw c.in-Reverse.is (puts_reverse c.args.s.now c.put_reversed.ensures)
+pub returns-else-mark : goal.returns-else-mark
+returns-else-mark c = puts_forward c.args.s.now c.if-mark.false c.put.ensures

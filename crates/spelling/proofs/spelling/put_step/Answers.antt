@@ -1,4 +1,5 @@
 -- `spelling::spelling::put_step` meets its contract: the two refusals, and the sequence. Assumes nothing.
+use borrow.Author.Rules.{rules}
 use mathlib.Core.Path.{ap, ◌∙◌}
 use Rattle.gfa_spec.specs.Bytes.{same, star}
 use Rattle.spelling.proofs.Spelled.{step_unknown, step_star, step_put}
@@ -13,4 +14,4 @@ returns-then-is_star c = step_star c.step-step.ensures c.sequence_of.ensures c.i
 pub returns : goal.returns
 returns c =
     step_put c.step-step.ensures c.sequence_of.ensures c.in-Some.is (c.is_star.ensures ∙ ap (λ s. same s star) c.of-sequence.ensures) c.if-is_star.false
-    (rw c.of-sequence.ensures at c.put_oriented.ensures)
+    (rw c.of-sequence.ensures at c.put_oriented.ensures) (search rules)
