@@ -11,7 +11,8 @@ const SHOWN: usize = 48;
 pub fn put_preview(w: &mut Writer, s: &[u8])
     ensures { Puts w.old (sequence_preview s.now) w.new }
 {
-    if s.len() <= SHOWN {
+    let whole = s.len() <= SHOWN;
+    if whole {
         w.put(s);
     } else {
         w.put(&s[..SHOWN]);

@@ -7,9 +7,9 @@ use Rattle.sequences.proofs.preview.put_preview.Goals as goal
 pub slice_bounds-put-end : goal.slice_bounds-put-end
 slice_bounds-put-end c = sym (length-take-le _ c.args.s.now (omega arith))
 
-pub returns-then-s-le-SHOWN : goal.returns-then-s-le-SHOWN
-returns-then-s-le-SHOWN c = puts_short c.args.s.now c.if-s-le-SHOWN.true c.put.ensures
+pub returns-then-whole : goal.returns-then-whole
+returns-then-whole c = puts_short c.args.s.now c.if-whole.true c.put.ensures
 
-pub returns-else-s-le-SHOWN : goal.returns-else-s-le-SHOWN
+pub returns-else-whole : goal.returns-else-whole
 unfolding bytes
-returns-else-s-le-SHOWN c = puts_long c.args.s.now c.if-s-le-SHOWN.false c.put-else-s-le-SHOWN.ensures c.put-else-s-le-SHOWN-2.ensures
+returns-else-whole c = puts_long c.args.s.now c.if-whole.false c.put-else-whole.ensures c.put-else-whole-2.ensures
