@@ -41,6 +41,11 @@ unfolding join_with led join
 joined_first b x [] = sym (append-nil x)
 joined_first b x (y ∷ ys) = ap (λ (r : List ℕ). x ++ (b ∷ r)) (joined_first b y ys)
 
+-- the first of the others
+pub led_first : (b : ℕ) (x : List ℕ) (xs : List (List ℕ)) → led b (x ∷ xs) ≡ (b ∷ x) ++ led b xs
+unfolding led join
+led_first b x xs = refl
+
 -- one more behind the others
 pub led_last : (b : ℕ) (xs : List (List ℕ)) (x : List ℕ) → led b (xs ++ (x ∷ [])) ≡ led b xs ++ (b ∷ x)
 unfolding led

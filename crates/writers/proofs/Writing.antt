@@ -206,6 +206,11 @@ measured_long w h = omega (arith, w.place)
 pub measured : {room next : ℕ} {out after piece : List ℕ} → Wrote (room + 1) out 0 piece after next → next ≤ room → next ≡ length piece
 measured w h = omega (arith, w.place)
 
+-- a buffer of which an empty part was lent to measure is as it was
+pub untouched : (lent out : List ℕ) → length lent ≡ 0 → lent ++ out ≡ out
+untouched [] out e = refl
+untouched (b ∷ lent) out e = absurd (omega arith)
+
 -- a piece that fits, written from the start, stands in front of what was there
 pub written : {limit next : ℕ} {out end p : List ℕ} → length p ≤ length out → length p ≤ limit → Wrote limit out 0 p end next → end ≡ p ++ drop (length p) out
 written {limit} {next} {out} {end} {p} h k w =
