@@ -18,7 +18,7 @@ use Rattle.scan.specs.Places.{part_at, bytes_in, Inside, FoundAt, FieldIs}
 use Rattle.scan.proofs.Fields.{field_bytes, found_at, few_fields}
 use Rattle.scan.specs.declared.places.Place.{Place}
 use Rattle.lines.specs.Columns.{HasColumn}
-use Rattle.lines.specs.LinkLines.{SignIs, EndHolds, EndRefused, EndIs, LinkFieldsAre}
+use Rattle.lines.specs.LinkLines.{SignRead, SignIs, read_by, EndHolds, EndRefused, EndRead, EndIs, LinkFieldsAre}
 
 -- ---- columns
 
@@ -29,30 +29,35 @@ module _ {text : List ℕ} {line : Place} {k : ℕ} {r : Option Place} where
 
 -- ---- an orientation
 
-module _ (empty other : Reason) (next : number_of other ≡ number_of empty + 1) where
-  pub sign_empty : (s : List ℕ) → length s ≡ 0 → SignIs (number_of empty) s (Err empty)
-  unfolding parse_orientation
+module _ {R : Type 0} (empty other : R) where
+  pub sign_empty : (s : List ℕ) → length s ≡ 0 → SignRead s empty other (Err empty)
   sign_empty [] h = record { says = refl }
   sign_empty (x ∷ xs) h = absurd (omega arith)
 
-  pub sign_long : (s : List ℕ) → 1 < length s → SignIs (number_of empty) s (Err other)
-  unfolding parse_orientation
+  pub sign_long : (s : List ℕ) → 1 < length s → SignRead s empty other (Err other)
   sign_long [] h = absurd (omega arith)
   sign_long (x ∷ []) h = absurd (omega arith)
-  sign_long (x ∷ (y ∷ ys)) h = record { says = rw (next, add-one) }
+  sign_long (x ∷ (y ∷ ys)) h = record { says = refl }
 
-  pub sign_one : (s : List ℕ) {r : Option Orientation} {c : Result Orientation Reason} → (length s ≡ 0 → ⊥) → length s ≤ 1 → OrientationIs (get_or s 0 0) r →
-      c ≡ ok_or r other → SignIs (number_of empty) s c
-  unfolding parse_orientation
+  pub sign_one : (s : List ℕ) {r : Option Orientation} {c : Result Orientation R} → (length s ≡ 0 → ⊥) → length s ≤ 1 → OrientationIs (get_or s 0 0) r →
+      c ≡ ok_or r other → SignRead s empty other c
   sign_one [] n l o e = absurd (n refl)
   sign_one (x ∷ (y ∷ ys)) n l o e = absurd (omega arith)
   sign_one (x ∷ []) {r} {c} n l o e = rw e (go r o)
     where
-      go : (r : Option Orientation) → OrientationIs x r → SignIs (number_of empty) (x ∷ []) (ok_or r other)
-      go (Some o) q = let p : x ≡ sign_of o = q.says in record { says = rw (p, sign_is o) }
-      go None q = let p : is_orientation x ≡ false = q.says in record { says = rw (p, next, add-one) }
+      go : (r : Option Orientation) → OrientationIs x r → SignRead (x ∷ []) empty other (ok_or r other)
+      go (Some o) q = record { says = q.says }
+      go None q = record { says = (q.says, refl) }
 
 -- ---- an end of a link
+
+module _ {R : Type 0} {text : List ℕ} {start size name mark : ℕ} {empty other : R} {p q : Place} {c : Result Orientation R}
+    (f : FoundAt text start size name p.start p.size) (g : FoundAt text start size mark q.start q.size) (o : SignRead (bytes_in text q) empty other c) where
+  pub end_read : {b : Orientation} → c ≡ Ok b → EndRead text start size name mark empty other (Ok (p, b))
+  end_read e = record { says = (f, rw (field_bytes g) (rw e at o)) }
+
+  pub end_unread : {k : R} → c ≡ Err k → EndRead text start size name mark empty other (Err k)
+  end_unread e = record { says = rw (field_bytes g) (rw e at o) }
 
 module _ {text : List ℕ} {start size name mark n : ℕ} {p q : Place} {c : Result Orientation Reason} (f : FoundAt text start size name p.start p.size)
     (g : FoundAt text start size mark q.start q.size) (o : SignIs n (bytes_in text q) c) where
@@ -61,6 +66,41 @@ module _ {text : List ℕ} {start size name mark n : ℕ} {p q : Place} {c : Res
 
   pub end_refused : {k : Reason} → c ≡ Err k → EndIs text start size name mark n (Err k)
   end_refused e = record { says = record { reads = rw (field_bytes g) (rw e at o.says) } }
+
+-- ---- refusals that have numbers, of which the second follows the first
+
+module _ {R : Type 0} (number : R → ℕ) {empty other : R} (next : number other ≡ number empty + 1) where
+  pub sign_numbered : (s : List ℕ) (r : Result Orientation R) → SignRead s empty other r → parse_orientation (number empty) s ≡ read_by number r
+  unfolding parse_orientation
+  sign_numbered [] r h = rw h.says refl
+  sign_numbered (x ∷ (y ∷ ys)) r h = rw h.says (rw (next, add-one) refl)
+  sign_numbered (x ∷ []) (Ok o) h = let p : x ≡ sign_of o = h.says in rw (p, sign_is o) refl
+  sign_numbered (x ∷ []) (Err k) h =
+      let p : is_orientation x ≡ false = h.says.0 in
+      let q : k ≡ other = h.says.1 in
+      rw (p, q, next, add-one) refl
+
+  module _ {text : List ℕ} {start size name mark : ℕ} where
+    pub end_holds : {p : Place × Orientation} → EndRead text start size name mark empty other (Ok p) → EndHolds text start size name mark (number empty) p.0 p.1
+    end_holds {p} h = record { segment = h.says.0; reads = sign_numbered _ (Ok p.1) h.says.1 }
+
+    pub end_refuses : {k : R} → EndRead text start size name mark empty other (Err k) → EndRefused text start size mark (number empty) (number k)
+    end_refuses {k} h = record { reads = sign_numbered _ (Err k) h.says }
+
+-- the numbers themselves
+pub sign_by_number : (n : ℕ) {s : List ℕ} {r : Result Orientation ℕ} → SignRead s n (n + 1) r → parse_orientation n s ≡ read_by (λ k. k) r
+sign_by_number n {s} {r} h = sign_numbered (λ k. k) refl s r h
+
+-- reasons by their numbers
+module _ {empty other : Reason} (next : number_of other ≡ number_of empty + 1) where
+  pub sign_by_reason : {s : List ℕ} {r : Result Orientation Reason} → SignRead s empty other r → SignIs (number_of empty) s r
+  sign_by_reason {s} {r = Ok o} h = record { says = sign_numbered number_of next s (Ok o) h }
+  sign_by_reason {s} {r = Err k} h = record { says = sign_numbered number_of next s (Err k) h }
+
+  pub end_by_reason : {text : List ℕ} {start size name mark : ℕ} {r : Result (Place × Orientation) Reason} → EndRead text start size name mark empty other r →
+      EndIs text start size name mark (number_of empty) r
+  end_by_reason {r = Ok p} h = record { says = end_holds number_of next h }
+  end_by_reason {r = Err k} h = record { says = end_refuses number_of next h }
 
 -- what the answer says, by its cases
 module _ {text : List ℕ} {start size name mark n : ℕ} {r : Result (Place × Orientation) Reason} (h : EndIs text start size name mark n r) where

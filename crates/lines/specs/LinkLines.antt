@@ -1,16 +1,36 @@
 -- What an L line says. Document 01, refusals 7 to 11.
-use Rattle.std.specs.Prelude.{Result, Ok, Err}
+use Rattle.std.specs.Prelude.{Result, Ok, Err, false, [], ◌∷◌}
 use Rattle.refusals.specs.declared.reason.Reason.{Reason}
 use Rattle.refusals.specs.Reasons.{number_of}
 use Rattle.scan.specs.declared.orientation.Orientation.{Orientation}
 use Rattle.scan.specs.Orientations.{sign_of}
 use Rattle.std.specs.Prelude.{ℕ, ◌+◌, ◌≤◌, List, ◌≡◌, length}
 use Rattle.gfa_spec.specs.Bytes.{part}
-use Rattle.gfa_spec.specs.Reading.{link, accepted, refused, fields, field, parse_orientation, parse_l}
+use Rattle.gfa_spec.specs.Reading.{Read, link, accepted, refused, fields, field, is_orientation, parse_orientation, parse_l}
 use Rattle.scan.specs.Places.{part_at, FoundAt}
 use Rattle.scan.specs.declared.places.Place.{Place}
 use Rattle.tables.specs.declared.rows.LinkWords.{LinkWords}
 use Rattle.lines.specs.Columns.{HasColumn}
+
+-- by the cases of the answer to one byte
+abbrev pub ByteSays : {R : Type 0} → ℕ → R → Result Orientation R → Type 0
+ByteSays b other (Ok o) = b ≡ sign_of o
+ByteSays b other (Err k) = (is_orientation b ≡ false) × (k ≡ other)
+
+-- by the cases of the field
+abbrev pub SignReadSays : {R : Type 0} → List ℕ → R → R → Result Orientation R → Type 0
+SignReadSays [] empty other r = r ≡ Err empty
+SignReadSays (b ∷ []) empty other r = ByteSays b other r
+SignReadSays (b ∷ (c ∷ bs)) empty other r = r ≡ Err other
+
+-- What is said of a field that is to hold an orientation, whatever stands for its refusals: one where it is empty, and the other where it is no single sign.
+pub record SignRead {R : Type 0} (s : List ℕ) (empty other : R) (r : Result Orientation R) : Type 0 where
+  pub says : SignReadSays s empty other r
+
+-- an answer as the definitions have it, by the numbers of its refusals
+abbrev pub read_by : {R : Type 0} → (R → ℕ) → Result Orientation R → Read ℕ
+read_by number (Ok o) = accepted (sign_of o)
+read_by number (Err k) = refused (number k)
 
 -- by the cases of the answer
 abbrev pub SignSays : ℕ → List ℕ → Result Orientation Reason → Type 0
@@ -29,6 +49,16 @@ pub record EndHolds (text : List ℕ) (start size name mark n : ℕ) (p : Place)
 -- The orientation in the column `mark` is refused.
 pub record EndRefused (text : List ℕ) (start size mark n k : ℕ) : Type 0 where
   pub reads : parse_orientation n (field mark (fields (part_at text start size))) ≡ refused k
+
+-- by the cases of the answer
+abbrev pub EndReadSays : {R : Type 0} → List ℕ → ℕ → ℕ → ℕ → ℕ → R → R → Result (Place × Orientation) R → Type 0
+EndReadSays text start size name mark empty other (Ok p) =
+    FoundAt text start size name p.0.start p.0.size × SignRead (field mark (fields (part_at text start size))) empty other (Ok p.1)
+EndReadSays text start size name mark empty other (Err k) = SignRead (field mark (fields (part_at text start size))) empty other (Err k)
+
+-- What is said of an end of a link, whatever stands for the refusals of its orientation.
+pub record EndRead {R : Type 0} (text : List ℕ) (start size name mark : ℕ) (empty other : R) (r : Result (Place × Orientation) R) : Type 0 where
+  pub says : EndReadSays text start size name mark empty other r
 
 -- by the cases of the answer
 abbrev pub EndSays : List ℕ → ℕ → ℕ → ℕ → ℕ → ℕ → Result (Place × Orientation) Reason → Type 0

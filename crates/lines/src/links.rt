@@ -1,10 +1,8 @@
 // L lines: checked, and put into the link table.
-ghost use Rattle.std.specs.Prelude.{◌≡◌, ◌+◌, ◌≤◌, length};
 ghost use Rattle.lines.specs.declared.sort.Sort.TheVariants as Sort;
 ghost use Rattle.lines.specs.Columns.{HasColumn};
 ghost use Rattle.lines.specs.NewLines.{IsOf, AddsRecord};
-ghost use Rattle.lines.specs.LinkLines.{SignIs, EndIs, LinkFieldsAre};
-ghost use Rattle.refusals.specs.Reasons.{number_of};
+ghost use Rattle.lines.specs.LinkLines.{SignRead, EndRead, LinkFieldsAre};
 ghost use Rattle.scan.specs.Places.{Inside};
 
 use crate::columns::column;
@@ -16,10 +14,9 @@ use tables::entry::{LinkNo, Record};
 use tables::rows::{LinkWords, put_link};
 use tables::tables::{Counts, one_more};
 
-// The orientation that a field says: a single + or -. It is refused with one reason where it is empty, and else with the other.
-pub fn parse_orientation(s: &[u8], empty: Reason, other: Reason) -> Result<Orientation, Reason>
-    requires { number_of other ≡ number_of empty + 1 }
-    ensures { SignIs (number_of empty) s.now result }
+// The orientation that a field says: a single + or -. It is refused with `empty` where it is empty, and else with `other`, whatever these are.
+pub fn parse_orientation<R: Copy>(s: &[u8], empty: R, other: R) -> Result<Orientation, R>
+    ensures { SignRead s.now empty other result }
 {
     if s.is_empty() {
         return Err(empty);
@@ -31,18 +28,17 @@ pub fn parse_orientation(s: &[u8], empty: Reason, other: Reason) -> Result<Orien
 }
 
 // An end of a link: the place of its segment's name, which is the column `name`, and its orientation, which is the column `mark`.
-pub fn end_of(
+pub fn end_of<R: Copy>(
     text: &[u8],
     line: Place,
     name: usize,
     mark: usize,
-    empty: Reason,
-    other: Reason,
-) -> Result<(Place, Orientation), Reason>
+    empty: R,
+    other: R,
+) -> Result<(Place, Orientation), R>
     requires named { HasColumn text.now line.start line.size name }
     requires marked { HasColumn text.now line.start line.size mark }
-    requires reasons { number_of other ≡ number_of empty + 1 }
-    ensures { EndIs text.now line.start line.size name mark (number_of empty) result }
+    ensures { EndRead text.now line.start line.size name mark empty other result }
 {
     let place = column(text, line, name);
     let sign = column(text, line, mark);
