@@ -1,5 +1,5 @@
 -- Names compared sanitized, from their ends. Assumes nothing.
-use Prim.Native.Nat.{ℕ, suc, ◌-◌, ◌≤◌, ◌<◌}
+use Prim.Native.Nat.{ℕ, suc, ◌≤◌, ◌<◌}
 use native.Mathlib.Omega.{arith}
 use mathlib.Core.Bool.{Bool, true, false, cond}
 use mathlib.Core.List.{List}
@@ -14,6 +14,10 @@ use Rattle.gfa_spec.proofs.Tests.{equal_same, same_equal, same_sym, refute, clas
 use Rattle.normalize_spec.specs.Folding.{is_plain, sanitized}
 use Rattle.scan.specs.Differences.{DifferenceIs}
 use Rattle.new_names.proofs.Sanitizing.{length_sanitized, get_or_sanitized, sanitized_twice}
+
+-- as many bytes are in a front
+pub front_counted : (n : ℕ) (xs : List ℕ) → n ≤ length xs → n ≡ length (take n xs)
+front_counted n xs h = sym (length-take-le n xs h)
 
 -- ---- the names, sanitized
 

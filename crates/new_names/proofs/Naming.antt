@@ -5,7 +5,7 @@ use mathlib.Core.Bool.{Bool, true, false, ◌&&◌}
 use mathlib.Core.List.{List, [], ◌∷◌, ◌++◌, append_assoc}
 use mathlib.Core.Path.{◌≡◌, refl, sym, ap, ◌∙◌}
 use lib.Dec.{eqb}
-use lib.ListN.{length, take, drop, length-append, take-append-drop}
+use lib.ListN.{length, take, drop, length-append, length-take, take-append-drop}
 use lib.Seq.{take_at, length-take-le}
 use Rattle.gfa_spec.specs.Bytes.{bytes, same}
 use Rattle.gfa_spec.specs.Decimal.{decimal}
@@ -13,14 +13,14 @@ use Rattle.gfa_spec.specs.Sums.{sum_from, name_sum}
 use Rattle.gfa_spec.proofs.Comparing.{same_length}
 use Rattle.gfa_spec.proofs.Parts.{by_order}
 use Rattle.gfa_spec.proofs.Sums.{sum_append}
-use Rattle.gfa_spec.proofs.Tests.{by_test}
+use Rattle.gfa_spec.proofs.Tests.{by_test, same_sym}
 use Rattle.normalize_spec.specs.Folding.{sanitized}
 use Rattle.normalize_spec.specs.NewNames.{suffix, new_name, name_tail}
 use Rattle.normalize_spec.proofs.NewNames.{name_parts}
 use Rattle.writers.specs.declared.writer.Writer.{Writer}
 use Rattle.writers.specs.Writers.{Wrote, Starts, Puts}
 use Rattle.writers.proofs.Digits.{decimal_small, decimal_more}
-use Rattle.writers.proofs.Writing.{written}
+use Rattle.writers.proofs.Writing.{keeps, written}
 use Rattle.new_names.proofs.Sanitizing.{length_sanitized}
 
 -- ---- lengths
@@ -84,6 +84,17 @@ suffix_some (suc k) h = refl
 pub tail_pieces : (count k : ℕ) → bytes "_selfloop_run" ++ decimal count ++ suffix k ≡ name_tail count k
 unfolding name_tail
 tail_pieces count k = rw append_assoc
+
+-- what stands in a buffer before the next place, behind a piece written at its front
+pub front_length : {limit next : ℕ} {out end p : List ℕ} → length out ≡ limit → Wrote limit out 0 p end next → next ≡ length (take next end)
+front_length e w = simp length-take (omega (arith, keeps w, w.place))
+
+-- is the piece, where there is room for it
+pub front_same : {limit next : ℕ} {out end p : List ℕ} (q : List ℕ) {r : Bool} → length out ≡ limit → length p ≤ limit → Wrote limit out 0 p end next
+    → r ≡ same q (take next end) → r ≡ same p q
+front_same {limit} {next} {out} {end} {p} q e k w h =
+    let front : take next end ≡ p = rw (written (omega arith) k w) (take_at p (drop (length p) out) next (omega (arith, w.place))) in
+    h ∙ ap (same q) front ∙ same_sym q p
 
 -- What a writer put at the front of a buffer stands there before its place, where there is room for it.
 module _ {before after : Writer} {out now : List ℕ} {room : ℕ} (s : Starts out room before) (long : length out ≡ room) (is : after.out.now ≡ now) where

@@ -53,6 +53,10 @@ module _ (text : List ℕ) (cap : ℕ) {out out' : List ℕ} (size : ℕ) {r : N
       let a = returned k h i in
       record { answer = a.answer; stats = a.stats; output = a.output; cleared = e ∙ rw l; kept = keeps a; folds = folds a }
 
+-- a call with an equal cap
+pub capped : {text out out' work' : List ℕ} {c cap size : ℕ} {r : NormalizeSelfLoopsResult} → c ≡ cap → Normalized text c out out' size work' r → Normalized text cap out out' size work' r
+capped e h = rw e at h
+
 -- ---- two calls
 
 -- Demand 3, looser caps fold at least as much: of two accepted calls on one text, whatever room and whatever work area was lent to each and whatever

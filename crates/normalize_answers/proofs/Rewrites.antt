@@ -23,7 +23,7 @@ use Rattle.tables.specs.declared.tables.Counts.{Counts}
 use Rattle.tables.specs.ByNumber.{tables_end}
 use Rattle.normalize_tables.specs.declared.layout.Layout.{Layout}
 use Rattle.normalize_tables.specs.declared.layout.Made.{Made}
-use Rattle.normalize_tables.specs.Layout.{Source}
+use Rattle.normalize_tables.specs.Layout.{Placed, Source}
 use Rattle.normalize_tables.specs.Marks.{Marked}
 use Rattle.normalize_tables.specs.News.{first_of, new_at, news_at, names_at, key_at, keys_at}
 use Rattle.normalize_tables.specs.Rewritten.{Folded, Relinked}
@@ -196,6 +196,10 @@ module _ {text w v u : List ℕ} {b : Bases} {n : Counts} {g : Layout} {m : Made
         )
 
 -- ---- what the passes ask, and what they leave
+
+-- rows of a work area that is as long as it was
+pub as_long : {b : Bases} {n : Counts} {g : Layout} {k l : ℕ} → Placed b n g k → l ≡ k → Placed b n g l
+as_long p e = rw e p
 
 pub passed : {text w v u : List ℕ} {b : Bases} {n : Counts} {g : Layout} {m : Made} {l : Links} {d : Pairs} → Source text w b n g → Marks text w b n g.folded → TransformIs text w v b n g m
     → NewPairTotals v n g m d → SettledIs text v u b n g m l → PassedIs text w u b n g (record { m = m; l = l; pairs = d })

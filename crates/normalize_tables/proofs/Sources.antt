@@ -11,6 +11,7 @@ use Rattle.work.proofs.Rows.{KeptWords, only_kept, kept_within}
 use Rattle.tables.specs.declared.tables.Bases.{Bases}
 use Rattle.tables.specs.declared.tables.Counts.{Counts}
 use Rattle.gfa_spec.specs.Reading.{Segment}
+use Rattle.tables.specs.Entries.{entries_at}
 use Rattle.tables.specs.ByNumber.{tables_end}
 use Rattle.runs.specs.Counts.{over_rows}
 use Rattle.tables.proofs.Standing.{Standing, tables_stand}
@@ -23,6 +24,10 @@ module _ {text w w' : List ℕ} {b : Bases} {n : Counts} {g : Layout} (s : Sourc
   -- the tables say the same
   pub standing : Standing text w w' b n
   standing = tables_stand s.readable.laid s.readable.sound k
+
+  -- and so do the entries
+  pub entries_stand : entries_at text w' b n.lines ≡ entries_at text w b n.lines
+  entries_stand = standing.entries
 
   pub source_stands : length w' ≡ length w → Source text w' b n g
   source_stands e =

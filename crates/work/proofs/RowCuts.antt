@@ -4,7 +4,7 @@ use native.Mathlib.Nat.{add-zero, add-suc, mul-zero, mul-add}
 use native.Mathlib.Omega.{arith}
 use mathlib.Core.List.{List, [], ◌∷◌, ◌++◌, append-nil, append_assoc}
 use mathlib.Core.Path.{◌≡◌}
-use Rattle.work.specs.Rows.{rows_at}
+use Rattle.work.specs.Rows.{rows_at, EachRow}
 
 module _ {A : Type 0} (row : List ℕ → ℕ → A) (width : ℕ) (w : List ℕ) where
   -- a table is its first m rows, and those behind them
@@ -37,3 +37,13 @@ module _ {A : Type 0} (row : List ℕ → ℕ → A) (width : ℕ) (w : List ℕ
       pub rows_none : n ≤ i → rows_at row width w (base + width * i) (n - i) ≡ []
       unfolding rows_at
       rows_none h = let left : n - i ≡ 0 = omega arith in rw left
+
+-- what each row of a table has, each row of a part of it has
+pub each_part : {P : List ℕ → ℕ → Type 0} {width : ℕ} {w : List ℕ} {base n : ℕ} (first count : ℕ) → EachRow P width w base n → first + count ≤ n
+    → EachRow P width w (base + width * first) count
+each_part {P} {width} {w} {base} {n} first count e h = record { row = go }
+  where
+    go : (i : ℕ) → i < count → P w (base + width * first + width * i)
+    go i l =
+        let place : base + width * first + width * i ≡ base + width * (first + i) = rw mul-add (omega arith) in
+        rw place (e.row (first + i) (omega arith))
