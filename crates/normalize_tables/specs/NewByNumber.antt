@@ -1,6 +1,8 @@
 -- Rows of the new segments, steps and paths by their numbers: what a row's number stands for, and what the words of a row say. Above this crate
 -- no width and no place of such a row need be named.
 use Rattle.std.specs.Prelude.{ℕ, ◌+◌, ◌*◌, ◌-◌, ◌≤◌, ◌<◌, Bool, ◌&&◌, List, [], ◌∷◌, ◌≡◌, eqb, length, get_or}
+use Rattle.std.specs.Prelude.{Some}
+use Rattle.std.specs.Option.{option_eq}
 use Rattle.gfa_spec.specs.Bytes.{nth}
 use Rattle.normalize_spec.specs.Folding.{NewStep}
 use Rattle.scan.specs.Orientations.{sign_of}
@@ -51,6 +53,10 @@ ends_no work g i =
       to = number_in (get_or work (g.ends + 3 * i + 1) 0);
       gone = eqb (get_or work (g.ends + 3 * i + 2) 0) 1;
     }
+
+-- these are the nodes at the ends of link i
+abbrev pub joins : List ℕ → Layout → ℕ → ℕ → ℕ → Bool
+joins work g i from to = option_eq eqb (ends_no work g i).from (Some from) && option_eq eqb (ends_no work g i).to (Some to)
 
 -- the words of a link's ends
 abbrev pub ends_words : Ends → List ℕ

@@ -4,11 +4,11 @@ ghost use Rattle.std.proofs.Props.{props};
 ghost use Rattle.tables.specs.Props.{Fits-prop};
 ghost use Rattle.tables.specs.ByNumber.{LinkIs};
 ghost use Rattle.normalize_tables.specs.Layout.{Source};
-ghost use Rattle.normalize_tables.specs.NewByNumber.{NewStepIs, NewPathIs, ends_no};
+ghost use Rattle.normalize_tables.specs.NewByNumber.{NewStepIs, NewPathIs, ends_no, joins};
 ghost use Rattle.normalize_tables.specs.Rewritten.{NewRows};
 
 use crate::layout::Area;
-use crate::rows::{Ends, NewStepWords, ends_at, new_path_at, new_step_at};
+use crate::rows::{Ends, NewStepWords, ends_at, joins_at, new_path_at, new_step_at};
 use tables::entry::{LinkNo, PathNo};
 use tables::graph::Graph;
 use tables::path_steps::Steps;
@@ -44,6 +44,14 @@ impl<'a> NewGraph<'a> {
         ensures { result ≡ ends_no self.now.work.now self.now.a.g i.0 }
     {
         ends_at(self.work, self.a, i)
+    }
+
+    // Are these the nodes at the ends of link `i`?
+    pub fn joins(&self, i: LinkNo, from: usize, to: usize) -> bool
+        requires { (i.0 < self.now.a.n.links) × (from < 4294967296) × (to < 4294967296) }
+        ensures { result ≡ joins self.now.work.now self.now.a.g i.0 from to }
+    {
+        joins_at(self.work, self.a, i, from, to)
     }
 
     // New step `k`.

@@ -4,7 +4,7 @@
 ghost use Rattle.std.specs.Prelude.{◌≡◌, ◌+◌, ◌≤◌, ◌<◌, eqb, length, get_or};
 ghost use Rattle.work.specs.Rows.{word_of};
 ghost use Rattle.normalize_tables.specs.News.{first_of};
-ghost use Rattle.normalize_tables.specs.NewByNumber.{NewSegmentThere, NewSegmentIs, NewStepThere, NewStepIs, NewPathThere, NewPathIs, ends_no, SegmentRoom, StepRoom, PathRoom, EndsRoom, NewSegmentPut, NewStepPut, NewPathPut, EndsPut, unit_slots};
+ghost use Rattle.normalize_tables.specs.NewByNumber.{NewSegmentThere, NewSegmentIs, NewStepThere, NewStepIs, NewPathThere, NewPathIs, ends_no, joins, SegmentRoom, StepRoom, PathRoom, EndsRoom, NewSegmentPut, NewStepPut, NewPathPut, EndsPut, unit_slots};
 
 use crate::layout::{Area, Layout};
 use scan::orientation::Orientation;
@@ -120,6 +120,16 @@ pub fn ends_at(work: &[u32], a: Area, i: LinkNo) -> Ends
         to: number_at(work, at + 1),
         gone: work[at + 2] == 1,
     }
+}
+
+// Are these the nodes at the ends of link `i`? Compared as words: an Option made of each would double the cost of a search over the links.
+#[tactic(auto, using(crate::proofs::Words::joined_told))]
+pub fn joins_at(work: &[u32], a: Area, i: LinkNo, from: usize, to: usize) -> bool
+    requires { EndsRoom work.now a.g a.n.links × (i.0 < a.n.links) × (from < 4294967296) × (to < 4294967296) }
+    ensures { result ≡ joins work.now a.g i.0 from to }
+{
+    let at = a.g.ends + 3 * i.0 as usize;
+    work[at] as usize == from + 1 && work[at + 1] as usize == to + 1
 }
 
 // Puts the row of new segment `j`.

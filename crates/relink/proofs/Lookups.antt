@@ -31,7 +31,7 @@ use Rattle.normalize_tables.specs.declared.layout.Layout.{Layout}
 use Rattle.normalize_tables.specs.declared.layout.Made.{Made}
 use Rattle.normalize_tables.specs.declared.rows.NewStepWords.{NewStepWords}
 use Rattle.normalize_tables.specs.News.{place_of, key_at, keys_at}
-use Rattle.normalize_tables.specs.NewByNumber.{step_is, step_in, ends_no}
+use Rattle.normalize_tables.specs.NewByNumber.{step_is, step_in, ends_no, joins}
 use Rattle.normalize_tables.proofs.Nodes.{same_place}
 use Rattle.normalize_tables.proofs.NewByNumber.{eq_steps}
 use Rattle.normalize_tables.specs.declared.rows.Ends.{Ends}
@@ -120,7 +120,13 @@ module _ (text : List ℕ) {work : List ℕ} (b : Bases) {n : Counts} {g : Layou
       pub match_marks : {u : Bool} {l : LinkWords} → not r ≡ false → LinkIs text work b i l → u ≡ marks_are p l.leaves l.enters → LinkMatch text work b n g m p i u
       match_marks z k t = record { answer = λ names fs d. pair_second q z (t ∙ rw k.link) ∙ match_all names fs d }
 
-pub ruleset matching = (match_removed, match_nodes, match_marks)
+-- a link with other nodes has not the parts, be it removed or not
+pub match_apart : (text : List ℕ) {work : List ℕ} (b : Bases) {n : Counts} {g : Layout} {m : Made} (p : Pair) {i : ℕ} {r : Bool} → PairThere n m p → i < n.links
+    → r ≡ joins work g i p.first.node p.second.node → not r ≡ true → LinkMatch text work b n g m p i false
+match_apart text {work} b {g = g} p {i} s l q z =
+    by_test (ends_no work g i).gone (match_removed text b p s l refl) (λ h. match_nodes text b p s l refl h q z)
+
+pub ruleset matching = (match_apart, match_removed, match_nodes, match_marks)
 
 -- ---- kept links
 

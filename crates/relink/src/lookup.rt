@@ -64,12 +64,16 @@ impl<'a> Sought<'a> {
         }
     }
 
-    // Is link `i` of the text kept, with the parts of the pair? Its row is read only where it has the nodes.
+    // Is link `i` of the text kept, with the parts of the pair? Most links are told apart by the words of their ends, before an Option is made of any;
+    // the link's row is read only where it has the nodes.
     #[tactic(auto, using(crate::proofs::Lookups::matching))]
     pub fn is_link(&self, i: LinkNo) -> bool
         requires { i.0 < self.now.graph.a.n.links }
         ensures { let graph = self.now.graph in LinkMatch graph.text.now graph.work.now graph.a.b graph.a.n graph.a.g graph.a.m self.now.pair i.0 result }
     {
+        if !self.graph.joins(i, self.pair.first.node, self.pair.second.node) {
+            return false;
+        }
         let e = self.graph.ends(i);
         if e.gone || !has_nodes(self.pair, e) {
             return false;
