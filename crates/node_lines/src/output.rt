@@ -1,21 +1,18 @@
 // The lines of a node.
 ghost use Rattle.std.specs.Prelude.{◌≡◌, [], ◌∷◌, map, ◌<◌};
 ghost use Rattle.gfa_spec.specs.Bytes.{bytes, join, join_with, ended, end_line};
-ghost use Rattle.scan.specs.Orientations.{sign_of};
 ghost use Rattle.scan.specs.Places.{bytes_in, Inside};
 ghost use Rattle.tables.specs.Paths.{kind_in};
 ghost use Rattle.tables.specs.Segments.{FoundBelow};
 ghost use Rattle.writers.specs.Writers.{Puts};
 ghost use Rattle.report_spec.specs.Lines.{line, number as number_line, node_lines};
 ghost use Rattle.nodes.specs.Counters.{PathBelow};
-ghost use Rattle.nodes.specs.Table.{weight_of};
 ghost use Rattle.ranks.specs.Ranking.{order_from};
 ghost use Rattle.node_lines.specs.NodeLines.{pairs_from, pair_piece, preview_from, path_from, name_column, node_from, node_in, Printable, RowReady, listed, Listed};
 
 use nodes::counters::{Counter, counter_at};
-use nodes::nodes::{NodeWords, node_at, weight};
+use nodes::nodes::{NodeWords, node_at};
 use ranks::ranking::order_from;
-use scan::orientation::Orientation;
 use scan::places::field_at;
 use sequences::preview::put_preview;
 use tables::entry::{PathNo, SegmentNo};
@@ -25,18 +22,18 @@ use work::work::word;
 use writers::pieces::{put_number_line, put_number_lines, put_value_line};
 use writers::writer::Writer;
 
-// An orientation pair, where it is there; behind a comma, where another is before it.
-pub fn put_pair(w: &mut Writer, bits: usize, from: Orientation, to: Orientation)
-    ensures { Puts w.old (pair_piece bits (weight_of from to) (sign_of from) (sign_of to)) w.new }
+// The orientation pair of a weight, where it is there; behind a comma, where another is before it.
+pub fn put_pair(w: &mut Writer, bits: usize, weight: usize, a: u8, b: u8)
+    requires { 0 < weight }
+    ensures { Puts w.old (pair_piece bits weight a b) w.new }
 {
-    let weight = weight(from, to);
     if bits / weight % 2 != 1 {
         return;
     }
     if bits % weight == 0 {
-        w.put(&[from.sign(), to.sign()]);
+        w.put(&[a, b]);
     } else {
-        w.put(&[b',', from.sign(), to.sign()]);
+        w.put(&[b',', a, b]);
     }
 }
 
@@ -46,10 +43,10 @@ pub fn put_pairs(w: &mut Writer, bits: usize)
     ensures { Puts w.old (end_line (line (bytes "link_orientations") (join_with 44 (pairs_from bits)))) w.new }
 {
     w.put(b"link_orientations=");
-    put_pair(w, bits, Orientation::Forward, Orientation::Forward);
-    put_pair(w, bits, Orientation::Forward, Orientation::Reverse);
-    put_pair(w, bits, Orientation::Reverse, Orientation::Forward);
-    put_pair(w, bits, Orientation::Reverse, Orientation::Reverse);
+    put_pair(w, bits, 1, b'+', b'+');
+    put_pair(w, bits, 2, b'+', b'-');
+    put_pair(w, bits, 4, b'-', b'+');
+    put_pair(w, bits, 8, b'-', b'-');
     w.put_byte(b'\n');
 }
 

@@ -7,8 +7,7 @@ use Rattle.gfa_spec.specs.Records.{segment_number, sequence_or_empty, is_self_li
 use Rattle.gfa_spec.specs.Runs.{bit}
 use Rattle.gfa_spec.specs.Sequences.{sequence_len}
 use Rattle.scan.specs.declared.places.Place.{Place}
-use Rattle.scan.specs.declared.orientation.Orientation.{Orientation}
-use Rattle.scan.specs.declared.orientation.Orientation.TheVariants.{Forward, Reverse}
+use Rattle.scan.specs.Orientations.{sign_of}
 use Rattle.scan.specs.Places.{bytes_in, Inside}
 use Rattle.work.specs.Rows.{span, Only, word_of, number_in}
 use Rattle.tables.specs.declared.tables.Bases.{Bases}
@@ -116,20 +115,17 @@ pub record SearchIs (text work : List ℕ) (table n : ℕ) (name : Place) (r : O
 
 -- ---- orientation pairs
 
--- the weight of a pair
-abbrev pub weight_of : Orientation → Orientation → ℕ
-weight_of Forward Forward = 1
-weight_of Forward Reverse = 2
-weight_of Reverse Forward = 4
-weight_of Reverse Reverse = 8
+-- the weight of a pair of signs, + (43) or - (45); 0 where one is none
+unfoldable pub weight_of : ℕ → ℕ → ℕ
+weight_of a b = cond (eqb a 43) (cond (eqb b 43) 1 (cond (eqb b 45) 2 0)) (cond (eqb a 45) (cond (eqb b 43) 4 (cond (eqb b 45) 8 0)) 0)
 
 -- pairs by their weights, with one more
-unfoldable pub marked_of : ℕ → Orientation → Orientation → ℕ
-marked_of bits a b = cond (eqb (bits / weight_of a b % 2) 1) bits (bits + weight_of a b)
+unfoldable pub marked_of : ℕ → ℕ → ℕ → ℕ
+marked_of bits a b = cond (eqb (weight_of a b) 0) bits (cond (eqb (bits / weight_of a b % 2) 1) bits (bits + weight_of a b))
 
 -- a row with a link more
 abbrev pub row_with_link : NodeWords → LinkWords → NodeWords
-row_with_link w l = record { name = w.name; number = w.number; long = w.long; links = w.links + 1; bits = marked_of w.bits l.leaves l.enters }
+row_with_link w l = record { name = w.name; number = w.number; long = w.long; links = w.links + 1; bits = marked_of w.bits (sign_of l.leaves) (sign_of l.enters) }
 
 -- the pairs that are there, by their weights
 unfoldable pub code : Bool → Bool → Bool → Bool → ℕ

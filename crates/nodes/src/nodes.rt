@@ -1,14 +1,14 @@
 // The node table: a row of fourteen words for each node with a self-link, in the order of first self-links. Its words: start and length
 // of the name, the word for the segment's number, the sequence's length, self-links, their orientation pairs, and eight counters. A row is read and
 // put by the table's place and its number, as those of crate tables: a struct of both would be made anew for each row that is put.
-ghost use Rattle.std.specs.Prelude.{◌≡◌, ◌+◌, ◌≤◌, ◌<◌, length};
+ghost use Rattle.std.specs.Prelude.{true, ◌≡◌, ◌+◌, ◌≤◌, ◌<◌, length};
+ghost use Rattle.gfa_spec.specs.Reading.{is_orientation};
 ghost use Rattle.scan.specs.Places.{Inside};
 ghost use Rattle.nodes.specs.Counters.{no_counter};
 ghost use Rattle.nodes.specs.Table.{nodes_end, node_no, NodeRead, counter_no, RowPut, SmallNode, NamesInside, SearchIs, segment_word, weight_of, marked_of, row_with_link};
 
 use crate::counters::{Counter, put_counter};
 use scan::names::same_name;
-use scan::orientation::Orientation;
 use scan::places::Place;
 use tables::entry::SegmentNo;
 use tables::rows::LinkWords;
@@ -104,26 +104,43 @@ pub fn find_row(text: &[u8], work: &[u32], table: usize, count: usize, name: Pla
     None
 }
 
-// The weight of an orientation pair: ++ 1, +- 2, -+ 4, -- 8.
-pub fn weight(from: Orientation, to: Orientation) -> usize
-    ensures { (result ≡ weight_of from to) × (1 ≤ result) × (result ≤ 8) }
+// The weight of an orientation pair: ++ 1, +- 2, -+ 4, -- 8; where one is no sign, 0.
+pub fn weight(from: usize, to: usize) -> usize
+    ensures { (result ≡ weight_of from to) × (result ≤ 8) × (is_orientation from ≡ true → is_orientation to ≡ true → 1 ≤ result) }
 {
-    match (from, to) {
-        (Orientation::Forward, Orientation::Forward) => 1,
-        (Orientation::Forward, Orientation::Reverse) => 2,
-        (Orientation::Reverse, Orientation::Forward) => 4,
-        (Orientation::Reverse, Orientation::Reverse) => 8,
+    if from == 43 {
+        if to == 43 {
+            return 1;
+        }
+        if to == 45 {
+            return 2;
+        }
+        return 0;
     }
+    if from == 45 {
+        if to == 43 {
+            return 4;
+        }
+        if to == 45 {
+            return 8;
+        }
+    }
+    0
 }
 
 // The orientation pairs with one more.
-#[tactic(auto, unfolding(crate::specs::Table::marked_of))]
-pub fn marked(bits: usize, from: Orientation, to: Orientation) -> usize
+pub fn marked(bits: usize, from: usize, to: usize) -> usize
     requires { bits < 16 }
     ensures { (result ≡ marked_of bits from to) × (result < 24) }
 {
     let w = weight(from, to);
-    if bits / w % 2 == 1 { bits } else { bits + w }
+    if w == 0 {
+        return bits;
+    }
+    if bits / w % 2 == 1 {
+        return bits;
+    }
+    bits + w
 }
 
 // Counts a link for node `k`.
@@ -132,6 +149,9 @@ pub fn count_link(work: &mut [u32], table: usize, k: usize, l: LinkWords)
     ensures { RowPut work.old work.new table k (row_with_link (node_no work.old table k) l) (counter_no work.old table k) }
 {
     let w = node_at(work, table, k);
-    let pair = [w.links + 1, marked(w.bits, l.leaves, l.enters)];
+    let pair = [
+        w.links + 1,
+        marked(w.bits, l.leaves.sign() as usize, l.enters.sign() as usize),
+    ];
     put_row(work, table + 14 * k + 4, &pair);
 }

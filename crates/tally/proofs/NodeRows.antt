@@ -13,6 +13,7 @@ use Rattle.gfa_spec.specs.Records.{is_self_link}
 use Rattle.gfa_spec.specs.Runs.{bit}
 use Rattle.gfa_spec.proofs.Tests.{same_equal, same_refl, same_sym, any_append}
 use Rattle.tables.specs.declared.rows.LinkWords.{LinkWords}
+use Rattle.scan.specs.Orientations.{sign_of}
 use Rattle.scan.specs.Places.{bytes_in, Inside}
 use Rattle.tables.specs.ByNumber.{link_of}
 use Rattle.report_spec.specs.Nodes.{each_once}
@@ -62,7 +63,7 @@ module _ {text : List ℕ} {ss : List Segment} {ls : List Link} {a : NodeWords} 
         number = r.number;
         long = r.long;
         links = rw (more, length-append, r.links);
-        bits = rw (more, r.bits) (bits_more text old l);
+        bits = rw (more, r.bits) (bits_more old (link_of text l));
       }
 
 module _ {text : List ℕ} {ss : List Segment} {ls : List Link} {w : List ℕ} {table n : ℕ} (t : NodeTable text ss ls w table n) (l : LinkWords) where
@@ -108,8 +109,8 @@ module _ {text : List ℕ} {ss : List Segment} {ls : List Link} {w : List ℕ} {
           let mine : links_among (ls ++ (link_of text l ∷ [])) name ≡ link_of text l ∷ [] = among_last ls (link_of text l) name ∙ rw (among_none ls name absent, on_row name, same_refl name) in
           record { number = refl; long = refl; links = rw mine; bits = rw mine one_pair }
         where
-          one_pair : marked_of 0 l.leaves l.enters ≡ bits_of (link_of text l ∷ [])
-          one_pair = unfold bits_of code any bit in bits_more text [] l
+          one_pair : marked_of 0 (sign_of l.leaves) (sign_of l.enters) ≡ bits_of (link_of text l ∷ [])
+          one_pair = unfold bits_of code any bit in bits_more [] (link_of text l)
 
       pub table_new : NodeTable text ss (ls ++ (link_of text l ∷ [])) w' table (n + 1)
       unfolding loop_names any names_to

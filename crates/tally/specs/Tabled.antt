@@ -7,6 +7,7 @@ use Rattle.work.specs.Rows.{span, Only}
 use Rattle.tables.specs.declared.tables.Bases.{Bases}
 use Rattle.tables.specs.declared.tables.Counts.{Counts}
 use Rattle.tables.specs.declared.rows.LinkWords.{LinkWords}
+use Rattle.scan.specs.Orientations.{sign_of}
 use Rattle.scan.specs.Places.{bytes_in}
 use Rattle.tables.specs.Segments.{segment_found}
 use Rattle.tables.specs.ByNumber.{segments_of, links_to, tables_end}
@@ -30,7 +31,7 @@ new_node text ss l =
       number = segment_found (segment_number ss (bytes_in text l.from));
       long = sequence_len (sequence_or_empty ss (bytes_in text l.from));
       links = 1;
-      bits = marked_of 0 l.leaves l.enters;
+      bits = marked_of 0 (sign_of l.leaves) (sign_of l.enters);
     }
 
 -- Row m is that of a new node.

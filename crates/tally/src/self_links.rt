@@ -24,7 +24,7 @@ pub fn add_node(nodes: &mut Counting, l: LinkWords)
         number: known.number,
         long: known.long,
         links: 1,
-        bits: marked(0, l.leaves, l.enters),
+        bits: marked(0, l.leaves.sign() as usize, l.enters.sign() as usize),
     };
     put_node(nodes.work, table, nodes.m, row);
 }

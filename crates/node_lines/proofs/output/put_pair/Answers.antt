@@ -3,13 +3,10 @@ use Rattle.node_lines.proofs.Pieces.{pair_none, pair_first, pair_next}
 use Rattle.node_lines.proofs.output.put_pair.Goals as goal
 
 pub returns-then-bits-weight-ne1 : goal.returns-then-bits-weight-ne1
-returns-then-bits-weight-ne1 c = rw (← c.weight-weight.ensures.0) (pair_none _ _ _ _ c.if-bits-weight-ne1.true)
+returns-then-bits-weight-ne1 c = pair_none _ _ _ _ c.if-bits-weight-ne1.true
 
 pub returns-then-bits-weight-eq0 : goal.returns-then-bits-weight-eq0
-returns-then-bits-weight-eq0 c =
-    rw (← c.weight-weight.ensures.0, ← c.sign.ensures, ← c.sign-then-bits-weight-eq0.ensures) (pair_first _ _ _ _ c.if-bits-weight-ne1.false c.if-bits-weight-eq0.true c.put.ensures)
+returns-then-bits-weight-eq0 c = pair_first _ _ _ _ c.if-bits-weight-ne1.false c.if-bits-weight-eq0.true c.put.ensures
 
 pub returns-else-bits-weight-eq0 : goal.returns-else-bits-weight-eq0
-returns-else-bits-weight-eq0 c =
-    rw (← c.weight-weight.ensures.0, ← c.sign-else-bits-weight-eq0.ensures, ← c.sign-else-bits-weight-eq0-2.ensures)
-    (pair_next _ _ _ _ c.if-bits-weight-ne1.false c.if-bits-weight-eq0.false c.put-else-bits-weight-eq0.ensures)
+returns-else-bits-weight-eq0 c = pair_next _ _ _ _ c.if-bits-weight-ne1.false c.if-bits-weight-eq0.false c.put-else-bits-weight-eq0.ensures

@@ -18,4 +18,4 @@ returns c =
     let marked = c.marked in
     let node_at = c.node_at-w in
     let put-row = c.put_row in
-    put_links pre.0 (rw (marked.ensures.0, node_at.ensures.is) at put-row.ensures)
+    put_links pre.0 (rw (marked.ensures.0, node_at.ensures.is, c.sign.ensures, c.sign-2.ensures) at put-row.ensures)

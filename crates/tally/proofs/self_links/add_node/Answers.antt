@@ -34,5 +34,5 @@ returns c =
     record {
       same = record { text = refl; loan = refl; bases = refl; counts = refl };
       none = refl;
-      adds = record { put = rw (known.number, known.long, c.marked.ensures.0, rw (o.bases, o.counts) at c.end-table.ensures) at c.put_node.ensures };
+      adds = record { put = rw (known.number, known.long, c.marked.ensures.0, c.sign.ensures, c.sign-2.ensures, rw (o.bases, o.counts) at c.end-table.ensures) at c.put_node.ensures };
     }
