@@ -113,10 +113,10 @@ module _ (names : List (List ℕ)) (s : NewStepWords) (k : ℕ) {before after : 
   token_p e comma name end = rw (← e) (as_piece (simp append_assoc) (comma ▷ name ▷ end))
 
   -- of a W line
-  pub token_w : {mark : ℕ} {x : Writer} → mark ≡ cond (eqb (sign_of s.mark) 43) 62 60 → Puts before (mark ∷ []) x → Puts x (nth s.node names []) after
+  pub token_w : {sign mark : ℕ} {x : Writer} → sign ≡ sign_of s.mark → mark ≡ cond (eqb sign 43) 62 60 → Puts before (mark ∷ []) x → Puts x (nth s.node names []) after
       → Puts before (token_of W k (step_in names s)) after
   unfolding token_of w_token
-  token_w e mark name = rw (← e) (mark ▷ name)
+  token_w o e mark name = rw (← o, ← e) (mark ▷ name)
 
   -- of those from step `first` on, by the kind
   module _ {work : List ℕ} {n : Counts} {g : Layout} {m : Made} (first : ℕ) {t : PathKind} (q : NewStepIs work n g m (first + k) s) where

@@ -48,7 +48,7 @@ fn put_w_token(w: &mut Writer, news: &News, k: usize, s: NewStepWords)
     requires { s.node < news.now.a.n.segs + news.now.a.m.segs }
     ensures { Puts w.old (token_of W k (step_in (news_ids news.now) s)) w.new }
 {
-    w.put_byte(mark_of(s.mark));
+    w.put_byte(mark_of(s.mark.sign() as usize));
     put_id(w, news, s.node);
 }
 
