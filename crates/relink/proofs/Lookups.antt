@@ -9,9 +9,7 @@ use mathlib.Core.Path.{◌≡◌, refl, sym, ◌∙◌}
 use lib.Dec.{eqb}
 use denote.Enum.Bare.{sameb}
 use Rattle.scan.specs.contracts.orientation.Orientation.{the_type}
-use Rattle.scan.specs.declared.orientation.Orientation.{Orientation}
 use Rattle.scan.specs.Orientations.{sign_of}
-use Rattle.scan.proofs.Orientations.{eq_signs}
 use lib.ListN.{length, get_or}
 use borrow.Author.Tests.{not-true, not-false}
 use Rattle.gfa_spec.specs.Bytes.{any, keep, distinct}
@@ -69,10 +67,6 @@ pair_eq p q =
 pub eq_pairs : (p q : Pair) → pair_eq p q ≡ pair_is p q
 eq_pairs p q = rw (eq_steps p.first q.first, eq_steps p.second q.second)
 
--- orientations are those of a pair exactly if their signs are
-pub marks_same : (p : Pair) (leaves enters : Orientation) → (sameb the_type p.first.mark leaves && sameb the_type p.second.mark enters) ≡ marks_are p leaves enters
-marks_same p leaves enters = rw (eq_signs p.first.mark leaves, eq_signs p.second.mark enters)
-
 -- two tests, one behind the other: the first fails, or the second decides
 pub pair_first : {r s : Bool} (t : Bool) → r ≡ s → not r ≡ true → ◌≡◌ {A = Bool} false (s && t)
 pair_first {r} t e h = rw (← e, not-true r h)
@@ -117,8 +111,9 @@ module _ (text : List ℕ) {work : List ℕ} (b : Bases) {n : Counts} {g : Layou
       pub match_nodes : not r ≡ true → LinkMatch text work b n g m p i false
       match_nodes z = record { answer = λ names fs d. pair_first _ q z ∙ match_all names fs d }
 
-      pub match_marks : {u : Bool} {l : LinkWords} → not r ≡ false → LinkIs text work b i l → u ≡ marks_are p l.leaves l.enters → LinkMatch text work b n g m p i u
-      match_marks z k t = record { answer = λ names fs d. pair_second q z (t ∙ rw k.link) ∙ match_all names fs d }
+      pub match_marks : {u : Bool} {l : LinkWords} {leaves enters : ℕ} → not r ≡ false → LinkIs text work b i l → leaves ≡ sign_of l.leaves → enters ≡ sign_of l.enters
+          → u ≡ marks_are p leaves enters → LinkMatch text work b n g m p i u
+      match_marks z k s t v = record { answer = λ names fs d. pair_second q z (v ∙ rw (s, t, k.link)) ∙ match_all names fs d }
 
 -- a link with other nodes has not the parts, be it removed or not
 pub match_apart : (text : List ℕ) {work : List ℕ} (b : Bases) {n : Counts} {g : Layout} {m : Made} (p : Pair) {i : ℕ} {r : Bool} → PairThere n m p → i < n.links

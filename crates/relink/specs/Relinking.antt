@@ -8,7 +8,6 @@ use Rattle.gfa_spec.specs.Reading.{Segment}
 use Rattle.gfa_spec.specs.Records.{is_self_link}
 use Rattle.normalize_spec.specs.Folding.{same_new_node}
 use Rattle.normalize_spec.specs.Links.{Key, is_removed, same_key, key_of, adjacent, missing}
-use Rattle.scan.specs.declared.orientation.Orientation.{Orientation}
 use Rattle.scan.specs.Orientations.{sign_of}
 use Rattle.work.specs.Rows.{EachRow, span, Only}
 use Rattle.tables.specs.declared.tables.Bases.{Bases}
@@ -70,8 +69,8 @@ abbrev pub nodes_are : Pair → Ends → Bool
 nodes_are p e = option_eq eqb e.from (Some p.first.node) && option_eq eqb e.to (Some p.second.node)
 
 -- its orientations are
-abbrev pub marks_are : Pair → Orientation → Orientation → Bool
-marks_are p leaves enters = eqb (sign_of p.first.mark) (sign_of leaves) && eqb (sign_of p.second.mark) (sign_of enters)
+abbrev pub marks_are : Pair → ℕ → ℕ → Bool
+marks_are p leaves enters = eqb (sign_of p.first.mark) leaves && eqb (sign_of p.second.mark) enters
 
 -- Link i of the text is kept, and has the parts of the pair.
 pub record LinkMatch (text work : List ℕ) (b : Bases) (n : Counts) (g : Layout) (m : Made) (p : Pair) (i : ℕ) (r : Bool) : Type 0 where

@@ -5,7 +5,6 @@ ghost use Rattle.relink.specs.Relinking.{AddedRows, PairThere, PairIs, nodes_are
 
 use normalize_tables::new_graph::NewGraph;
 use normalize_tables::rows::{Ends, NewStepWords};
-use scan::orientation::Orientation;
 use tables::entry::LinkNo;
 use work::work::word;
 
@@ -34,12 +33,11 @@ pub fn has_nodes(p: Pair, e: Ends) -> bool
     e.from == Some(p.first.node) && e.to == Some(p.second.node)
 }
 
-// Has a link with these orientations those of the pair?
-#[tactic(auto, using(crate::proofs::Lookups::marks_same))]
-pub fn has_marks(p: Pair, leaves: Orientation, enters: Orientation) -> bool
+// Has a link with these signs those of the pair?
+pub fn has_marks(p: Pair, leaves: usize, enters: usize) -> bool
     ensures { result ≡ marks_are p leaves enters }
 {
-    p.first.mark == leaves && p.second.mark == enters
+    p.first.mark.sign() as usize == leaves && p.second.mark.sign() as usize == enters
 }
 
 // A pair of new steps of a graph, for which a link is sought.
@@ -71,7 +69,10 @@ impl<'a> Sought<'a> {
         requires { i.0 < self.now.graph.a.n.links }
         ensures { let graph = self.now.graph in LinkMatch graph.text.now graph.work.now graph.a.b graph.a.n graph.a.g graph.a.m self.now.pair i.0 result }
     {
-        if !self.graph.joins(i, self.pair.first.node, self.pair.second.node) {
+        if !self
+            .graph
+            .joins(i, self.pair.first.node, self.pair.second.node)
+        {
             return false;
         }
         let e = self.graph.ends(i);
@@ -79,7 +80,11 @@ impl<'a> Sought<'a> {
             return false;
         }
         let l = self.graph.link(i);
-        has_marks(self.pair, l.leaves, l.enters)
+        has_marks(
+            self.pair,
+            l.leaves.sign() as usize,
+            l.enters.sign() as usize,
+        )
     }
 
     // Has a kept link of the text the parts of the pair?
