@@ -43,7 +43,7 @@ digits_few (suc d) n h = by_order 10 n (long (digits_few d (n / 10))) short
     long ih l = rw (decimal_more n l, length-append) (omega (arith, ih (omega arith)))
 
 -- a number of 64 bits has at most 20 digits
-decimal_short : (n : ℕ) → n ≤ 18446744073709551615 → length (decimal n) ≤ 20
+pub decimal_short : (n : ℕ) → n ≤ 18446744073709551615 → length (decimal n) ≤ 20
 unfolding tens
 decimal_short n h = digits_few 19 n (omega arith)
 
@@ -54,7 +54,7 @@ suffix_short zero h = omega arith
 suffix_short (suc k) h = omega (arith, decimal_short (suc k) h)
 
 -- what stands in a name behind the unit's has at most 54 bytes
-tail_short : (count k : ℕ) → count ≤ 18446744073709551615 → k ≤ 18446744073709551615 → length (name_tail count k) ≤ 54
+pub tail_short : (count k : ℕ) → count ≤ 18446744073709551615 → k ≤ 18446744073709551615 → length (name_tail count k) ≤ 54
 unfolding name_tail bytes
 tail_short count k h l = simp length-append (omega (arith, decimal_short count h, suffix_short k l))
 

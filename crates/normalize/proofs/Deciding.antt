@@ -69,11 +69,11 @@ stats_are es t v s = s.counts ∙ rw (t.of_links, t.of_paths, ← v, t.of_paths)
 -- ---- the decision
 
 module _ {text w : List ℕ} {b : Bases} {n : Counts} {g : Layout} (l : Loaded text w b n) (p : Placed b n g (length w)) where
-  loaded_source : Source text w b n g
+  pub loaded_source : Source text w b n g
   loaded_source = record { readable = l.readable; placed = p; apart = l.apart; visits = omega (arith, l.visits) }
 
   module _ {cap : ℕ} {w' : List ℕ} (m : MarkedIs cap text w w' b n g) where
-    marked_source : Source text w' b n g
+    pub marked_source : Source text w' b n g
     marked_source = source_behind loaded_source (omega arith) m.only m.long
 
     marked_tied : Tied (entries_at text w b n.lines) text w' b n

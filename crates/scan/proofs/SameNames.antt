@@ -42,14 +42,14 @@ module _ {xs ys : List ℕ} {r : Option ℕ} (is : DifferenceIs xs ys r) where
     last_at : LastAt xs ys i
     last_at = rw e at is.says
 
-    difference_no : false ≡ same xs ys
+    pub difference_no : false ≡ same xs ys
     difference_no = sym (same_differ xs ys i last_at.differ)
 
   module _ (e : r ≡ None) where
-    difference_none : xs ≡ ys
+    pub difference_none : xs ≡ ys
     difference_none = rw e at is.says
 
-    difference_yes : true ≡ same xs ys
+    pub difference_yes : true ≡ same xs ys
     difference_yes = sym (equal_same xs ys difference_none)
 
 -- an answer that is yes where there is none

@@ -49,11 +49,11 @@ module _ (x y name : List ℕ) where
 
 module _ {text w : List ℕ} {b : Bases} {n : Counts} {marks i : ℕ} {l : LinkWords} {r : Bool} (q : LinkIs text w b i l)
     (e : r ≡ is_self_link (link_of text l)) where
-  link_other : Markable text w b n marks → r ≡ false → LinkMarked text w w b n marks i
+  pub link_other : Markable text w b n marks → r ≡ false → LinkMarked text w w b n marks i
   unfolding is_self_link
   link_other m h = record { adds = adds_alike (adds_none m) (λ s. rw q.link (other_name (bytes_in text l.from) (bytes_in text l.to) s.id (sym e ∙ h))) }
 
-  link_marked : {w' : List ℕ} → r ≡ true → NameMarked text w w' b n marks l.from → LinkMarked text w w' b n marks i
+  pub link_marked : {w' : List ℕ} → r ≡ true → NameMarked text w w' b n marks l.from → LinkMarked text w w' b n marks i
   unfolding is_self_link
   link_marked h a = record { adds = adds_alike a.adds (λ s. rw q.link (one_name (bytes_in text l.from) (bytes_in text l.to) s.id (sym e ∙ h))) }
 

@@ -41,11 +41,11 @@ use Rattle.targets.proofs.Adding.{folded_marks, tables_kept, tables_same, marked
 -- ---- a run
 
 module _ {text w : List ℕ} {b : Bases} {n : Counts} {marks i end r : ℕ} (q : RunFrom text w b i end r) where
-  next_short : Markable text w b n marks → r - i < 2 → NextMarked text w w b n marks i end r
+  pub next_short : Markable text w b n marks → r - i < 2 → NextMarked text w w b n marks i end r
   unfolding is_repeat
   next_short m h = record { run = q; adds = adds_alike (adds_none m) (λ s. rw (lt-leb 2 (r - i) h)) }
 
-  next_marked : {w' : List ℕ} {s : StepWords} → 2 ≤ r - i → StepIs text w b i s → NameMarked text w w' b n marks s.name → NextMarked text w w' b n marks i end r
+  pub next_marked : {w' : List ℕ} {s : StepWords} → 2 ≤ r - i → StepIs text w b i s → NameMarked text w w' b n marks s.name → NextMarked text w w' b n marks i end r
   unfolding is_repeat part_at
   next_marked {s = s} h e a =
       record { run = q; adds = adds_alike a.adds (λ t. rw (le-leb 2 (r - i) h, same_sym t.id (bytes_in text s.name), e.step)) }
