@@ -1,10 +1,14 @@
 -- What a normalization answers: a refusal, or the text with its statistics. Assumes nothing.
-use Prim.Native.Nat.{ℕ, ◌≤◌, ◌<◌}
+use Prim.Native.Nat.{ℕ, ◌+◌, ◌≤◌, ◌<◌}
+use native.Mathlib.Omega.{arith}
 use mathlib.Core.List.{List, ◌++◌}
 use mathlib.Core.Path.{◌≡◌, refl, ◌∙◌}
 use lib.ListN.{length, drop}
 use borrow.Author.Tests.{lt-ltb, le-ltb}
 use Rattle.std.specs.Prelude.{Result, Ok, Err}
+use Rattle.std.proofs.lemmas.List.Edits.{sets-eq}
+use Rattle.writers.specs.Writers.{Wrote}
+use Rattle.writers.proofs.Writing.{stored}
 use Rattle.refusals.specs.declared.refusal.Refusal.{Refusal}
 use Rattle.refusals.specs.Refusals.{stated}
 use Rattle.gfa_spec.specs.Calls.{plainly}
@@ -37,6 +41,12 @@ pub room : {out out' : List ℕ} {w : Written} (bs : List ℕ) (st : Stats) → 
     → out' ≡ bs ++ drop (length bs) out → NormalTold out out' (Ok w) (normal_fitted (length out) (normal bs st))
 unfolding normal_fitted
 room {out} bs st l f s u = gives bs st (normal_fitted (length out) (normal bs st)) (rw (le-ltb (length out) (length bs) l)) f s u
+
+-- it stands in front, and what stood behind it stays
+pub in_front : {out out' : List ℕ} {next : ℕ} (bs : List ℕ) → length bs ≤ length out → Wrote (length bs) out 0 bs out' next → out' ≡ bs ++ drop (length bs) out
+in_front {out} bs h w =
+    let e : 0 + length bs ≡ length bs = omega arith in
+    stored (omega arith) w ∙ rw e at (sets-eq bs out 0 (omega arith))
 
 -- it is returned
 pub returned : {out out' : List ℕ} {r : NormalizeSelfLoopsResult} {o : Normal} (k : Result Written Refusal) → NormalTold out out' k o → ReturnedIs k r → NormalAnswered out out' r o

@@ -9,6 +9,7 @@ use crate::written::Written;
 use reader::answers::Answer;
 use refusals::reason::Reason;
 use refusals::refusal::Refusal;
+use writers::placed::put_at;
 
 // What a normalization returns: its answer, and its statistics, which are all 0 on a refusal.
 #[repr(C)]
@@ -48,7 +49,7 @@ pub fn return_text(
     if out.len() < text.len() {
         return Err(Refusal::of(Reason::ShortOutput));
     }
-    out[..text.len()].copy_from_slice(text);
+    put_at(out, 0, text.len(), text);
     Ok(Written {
         length: text.len(),
         stats,

@@ -31,7 +31,7 @@ sets_before l at [] i h = refl
 sets_before l at (v ∷ vs) i h = sets_before (set l at v) (suc at) vs i (omega arith) ∙ get_or-set_other l at i v 0 (λ e. omega arith)
 
 -- what there is no room for may be left out
-sets_room : (l piece : List ℕ) (at n : ℕ) → n ≡ min (length piece) (length l - at) → sets l at (take n piece) ≡ sets l at piece
+pub sets_room : (l piece : List ℕ) (at n : ℕ) → n ≡ min (length piece) (length l - at) → sets l at (take n piece) ≡ sets l at piece
 sets_room l piece at n e = by_order (length piece) n whole cut
   where
     whole : length piece ≤ n → sets l at (take n piece) ≡ sets l at piece

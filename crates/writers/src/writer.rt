@@ -70,12 +70,12 @@ impl<'a> Writer<'a> {
     }
 }
 
-// Stores `s` from place `at` on, as far as there is room.
+// Stores `s` from place `at` on, as far as there is room. Byte by byte: the library's copy would want `memmove` of whoever links the archive.
 fn store(out: &mut [u8], at: usize, s: &[u8])
     ensures { out.new ≡ sets out.old at s.now }
 {
-    if at < out.len() {
-        let fits = s.len().min(out.len() - at);
-        out[at..at + fits].copy_from_slice(&s[..fits]);
+    let fits = s.len().min(out.len().saturating_sub(at));
+    for i in 0..fits {
+        out[at + i] = s[i];
     }
 }

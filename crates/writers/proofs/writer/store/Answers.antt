@@ -1,11 +1,10 @@
--- `writers::writer::store` meets its contract: what there is room for is copied. Assumes nothing.
-use Rattle.std.proofs.Common.{sym, arith}
-use Rattle.std.proofs.lemmas.Grind.{common_steps}
-use Rattle.writers.proofs.Writing.{copied, sets_out}
+use native.Mathlib.Omega.{arith}
+use mathlib.Core.Path.{refl, ◌∙◌}
+use Rattle.writers.proofs.Writing.{turn, sets_room}
 use Rattle.writers.proofs.writer.store.Goals as goal
 
-pub returns-then-at-out : goal.returns-then-at-out
-returns-then-at-out c = copied c.args.out.now c.args.s.now c.args.at c.if-at-out.true c.min-fits.ensures (omega arith) (grind (arith, common_steps))
+pub loop-i-preserved : goal.loop-i-preserved
+loop-i-preserved c = turn _ _ _ _ (omega arith) c.loop-i.invariant refl
 
-pub returns-else-at-out : goal.returns-else-at-out
-returns-else-at-out c = sym (sets_out c.args.out.now c.args.at c.args.s.now c.if-at-out.false)
+pub returns : goal.returns
+returns c = c.loop-i.invariant ∙ sets_room c.args.out.now c.args.s.now c.args.at c.loop-i.i (omega arith)
