@@ -44,7 +44,7 @@ pub fn sanitized_sum(h: u32, s: &[u8]) -> u32
     sum
 }
 
-// Are two names the same, sanitized? From their ends, by the bytes that differ (R-4). A `for` over all bytes would compare them anew.
+// Are two names the same, sanitized? From their ends, by the bytes that differ (R-4): each is sought on the way to the next, so no `for`.
 #[tactic(auto, using(crate::proofs::Likeness::comparing))]
 pub fn same_sanitized(s: &[u8], t: &[u8]) -> bool
     ensures { result ≡ same (sanitized s.now) (sanitized t.now) }

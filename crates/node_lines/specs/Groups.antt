@@ -52,7 +52,7 @@ pub record Sized (node : ℕ → Node) (work : List ℕ) (table : ℕ) : Type 0 
   pub long : (i : ℕ) → (node i).sequence_len ≡ (node_no work table i).long
   pub links : (i : ℕ) → (node i).links ≡ (node_no work table i).links
 
--- The buckets of nodes that rise by length were written. Whatever the lengths are, the buffer and the limit stay.
+-- The buckets of nodes that rise by length were written. Whatever the lengths are, the writer keeps its buffer and its limit.
 pub record BucketsIs (before : Writer) (work : List ℕ) (table nums m : ℕ) (after : Writer) : Type 0 where
   pub same : after.out.ghost_name ≡ before.out.ghost_name
   pub limit : after.limit ≡ before.limit

@@ -1,7 +1,6 @@
 -- Rows of the new segments, steps and paths by their numbers: what a row's number stands for, and what the words of a row say. Above this crate
 -- no width and no place of such a row need be named.
-use Rattle.std.specs.Prelude.{ℕ, ◌+◌, ◌*◌, ◌-◌, ◌≤◌, ◌<◌, Bool, ◌&&◌, List, [], ◌∷◌, ◌≡◌, eqb, length, get_or}
-use Rattle.std.specs.Prelude.{Some}
+use Rattle.std.specs.Prelude.{ℕ, ◌+◌, ◌*◌, ◌-◌, ◌≤◌, ◌<◌, Bool, ◌&&◌, List, [], ◌∷◌, ◌≡◌, Some, eqb, length, get_or}
 use Rattle.std.specs.Option.{option_eq}
 use Rattle.gfa_spec.specs.Bytes.{nth}
 use Rattle.normalize_spec.specs.Folding.{NewStep}
